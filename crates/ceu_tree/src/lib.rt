@@ -1,0 +1,8 @@
+//! The source tree and the kernel tree, and what a program means.
+#![tactic(auto)]
+
+mod kernel;
+mod source;
+
+pub use kernel::{KArm, KBlock, KCode, KDecl, KEvent, KExp, KExpNode, KKind, KLoop, KNode, KStmt, Kernel, Loc, ParKind, Unit};
+pub use source::{Arm, Await, Block, Call, Class, Decl, Do, Exp, ExpNode, Ident, Item, Label, Node, Param, Range, Source, Spawn, Stmt, Target, Tree};
