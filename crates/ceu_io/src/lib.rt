@@ -1,0 +1,10 @@
+//! The outside as the program sees it: files by name, a source of bytes and a sink, each with a count of faults, and objects in memory that keep the same promises.
+#![tactic(auto)]
+
+mod outside;
+mod shelves;
+mod whole;
+
+pub use outside::{Failed, Sink, Source};
+pub use shelves::{Fetched, Shelf, ShelfError};
+pub use whole::write_all;
