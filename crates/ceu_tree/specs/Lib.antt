@@ -4,3 +4,14 @@ pub mod Needs
 pub mod Paths
 pub mod Costs
 pub mod Weight
+pub mod Residual
+pub mod Focus
+pub mod World
+pub mod Expressions
+pub mod Abort
+pub mod Wake
+pub mod Leaf
+pub mod Around
+pub mod Step
+pub mod Run
+pub mod Text
