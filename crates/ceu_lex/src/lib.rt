@@ -8,7 +8,7 @@ mod lexer;
 mod times;
 mod token;
 
-pub use laws::one_outcome;
+pub use laws::{longest_token, one_outcome};
 pub use lexer::{LexError, lex};
 pub use token::{RESERVED, SYMBOLS, Sym, Token, TokenKind, UNITS, Word};
 
@@ -47,7 +47,13 @@ mod tests {
         assert_eq!(rt; found[2].kind, TokenKind::Symbol(Sym::Semicolon));
         for (token, (start, end)) in found.iter().zip([(0, 6), (7, 8), (8, 9)]) {
             assert_eq!(rt; (token.start, token.end), (start, end));
-            assert_eq!(rt; token.pos, Pos { line: 1, col: start.saturating_add(1) });
+            assert_eq!(rt;
+                token.pos,
+                Pos {
+                    line: 1,
+                    col: start.saturating_add(1)
+                }
+            );
         }
         Ok(())
     }
@@ -64,7 +70,11 @@ mod tests {
         ];
         for (text, rule, line, col) in rows {
             let refused = outcome(rt.alloc(), text).err();
-            assert_eq!(rt; refused, Some(LexError::Refused(rule, Pos { line, col })), "at {line}:{col}");
+            assert_eq!(rt;
+                refused,
+                Some(LexError::Refused(rule, Pos { line, col })),
+                "at {line}:{col}"
+            );
         }
     }
 
@@ -76,10 +86,16 @@ mod tests {
         let mut comment = blanks;
         comment[0] = b'/';
         comment[1] = b'*';
-        assert_eq!(rt; outcome(rt.alloc(), &comment).err(), Some(LexError::Refused(Rule::L2, Pos { line: 1, col: 1 })));
+        assert_eq!(rt;
+            outcome(rt.alloc(), &comment).err(),
+            Some(LexError::Refused(Rule::L2, Pos { line: 1, col: 1 }))
+        );
 
         let too_long = words_of(rt.alloc(), 65)?;
-        assert_eq!(rt; outcome(rt.alloc(), &too_long).err(), Some(LexError::Refused(Rule::L5, Pos { line: 1, col: 1 })));
+        assert_eq!(rt;
+            outcome(rt.alloc(), &too_long).err(),
+            Some(LexError::Refused(Rule::L5, Pos { line: 1, col: 1 }))
+        );
 
         let longest = words_of(rt.alloc(), 64)?;
         assert_eq!(rt; outcome(rt.alloc(), &longest)?.items().len(), 16_132);
@@ -89,5 +105,6 @@ mod tests {
     #[test]
     fn laws_are_called(rt: HostRuntime) {
         one_outcome();
+        longest_token();
     }
 }
