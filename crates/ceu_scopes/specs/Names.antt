@@ -40,7 +40,12 @@ use Rattle.ceu_tree.specs.declared.source.Tree.{Tree}
 use Rattle.ceu_scopes.specs.declared.known.Known.{Known}
 use Rattle.ceu_scopes.specs.declared.known.Role.TheVariants as role
 use Rattle.ceu_scopes.specs.declared.known.Scopes.{Scopes}
-use Rattle.ceu_scopes.specs.Walk.{Border, Plain, Async, Body, Scope, Walk, Broken, Step, ◌>>=◌, is_among, opened, closed, shown, fresh}
+use Rattle.ceu_scopes.specs.declared.scope.Border.{Border}
+use Rattle.ceu_scopes.specs.declared.scope.Border.TheVariants.{Plain, Async, Body}
+use Rattle.ceu_scopes.specs.declared.scope.Scope.{Scope}
+use Rattle.ceu_scopes.specs.declared.walk.Walk.{Walk}
+use Rattle.ceu_scopes.specs.Shown.{added}
+use Rattle.ceu_scopes.specs.Walk.{Broken, Step, ◌>>=◌, opened, closed, shown, fresh}
 use Rattle.ceu_scopes.specs.Rules.{checked, used, named, nothing_besides, and_on, pool_broken, set_broken, inside_broken, declared, label_broken}
 
 -- ---- expressions
@@ -156,10 +161,6 @@ unlabelled _ w = Ok w
 abbrev pub escape_walked : Option Ident → Walk → Step
 escape_walked None w = Ok w
 escape_walked (Some l) w = checked (label_broken w.labels l) l.pos w
-
--- the numbers of the variables that an async lists, each once
-abbrev pub added : List ℕ → ℕ → List ℕ
-added ns n = if is_among n ns then ns else ns ++ n ∷ []
 
 abbrev pub list_with : List ℕ → Known × Walk → Result (List ℕ × Walk) Broken
 list_with ns (k, w) = Ok (added ns k.number, w)

@@ -14,7 +14,10 @@ use Rattle.ceu_tree.specs.declared.source.Label.TheVariants as label
 use Rattle.ceu_scopes.specs.declared.known.Known.{Known}
 use Rattle.ceu_scopes.specs.declared.known.Role.{Role}
 use Rattle.ceu_scopes.specs.declared.known.Role.TheVariants as role
-use Rattle.ceu_scopes.specs.Walk.{Scope, Walk, Broken, Step, ◌>>=◌, found, is_global, decl_of, is_listed, names_of, block_of}
+use Rattle.ceu_scopes.specs.declared.scope.Scope.{Scope}
+use Rattle.ceu_scopes.specs.declared.walk.Walk.{Walk}
+use Rattle.ceu_scopes.specs.Shown.{found}
+use Rattle.ceu_scopes.specs.Walk.{Broken, Step, ◌>>=◌, is_global, decl_of, is_listed, names_of, block_of}
 
 -- a rule that is broken at a place ends the walk
 abbrev pub checked : {A : Type 0} → Option Rule → Pos → A → Result A Broken

@@ -13,29 +13,11 @@ use Rattle.ceu_tree.specs.declared.source.Class.TheVariants as class
 use Rattle.ceu_tree.specs.declared.source.Decl.{Decl}
 use Rattle.ceu_tree.specs.declared.source.Ident.{Ident}
 use Rattle.ceu_scopes.specs.declared.known.Known.{Known}
-
--- what stands between a block and the block around it
-pub data Border : Type 0 where
-  Plain : Border
-  -- an async that lists the variables with these numbers
-  Async : (listed : List ℕ) → Border
-  -- the head of the code of this name
-  Body : (name : List ℕ) → Border
-
--- an open block: its number, its border and the names that it shows, with their declarations
-pub record Scope : Type 0 where
-  pub block : ℕ
-  pub border : Border
-  pub names : List (List ℕ × Known)
-
--- how far a program is walked: the open blocks (`scopes`) and the labels around the place, both from the innermost out; how many blocks were
--- opened so far; the declarations and the numbers of the uses' declarations so far
-pub record Walk : Type 0 where
-  pub scopes : List Scope
-  pub labels : List (List ℕ)
-  pub blocks : ℕ
-  pub decls : List Decl
-  pub uses : List ℕ
+use Rattle.ceu_scopes.specs.declared.scope.Border.{Border}
+use Rattle.ceu_scopes.specs.declared.scope.Border.TheVariants.{Plain, Async, Body}
+use Rattle.ceu_scopes.specs.declared.scope.Scope.{Scope}
+use Rattle.ceu_scopes.specs.declared.walk.Walk.{Walk}
+use Rattle.ceu_scopes.specs.Shown.{found, entered, is_among}
 
 -- a rule that is broken, and where
 abbrev pub Broken : Type 0
@@ -52,11 +34,6 @@ Ok x >>= f = f x
 Err e >>= f = Err e
 
 -- ---- what is visible
-
--- the declaration of a name in one block
-abbrev pub found : List (List ℕ × Known) → List ℕ → Option Known
-found [] x = None
-found (e ∷ es) x = if bytes_eq x e.0 then Some e.1 else found es x
 
 -- inputs, outputs and code are seen everywhere
 abbrev pub is_global : Class → Bool
@@ -126,10 +103,6 @@ decl_of scopes x =
 
 -- ---- asyncs
 
-abbrev pub is_among : ℕ → List ℕ → Bool
-is_among n [] = false
-is_among n (m ∷ ms) = (n == m) || is_among n ms
-
 -- whether a declaration of outside may be used behind the border
 abbrev pub admits : Border → ℕ → Bool
 admits (Async listed) n = is_among n listed
@@ -170,7 +143,7 @@ names_of (s ∷ outside) = s.names
 
 abbrev pub with_name : List ℕ → Known → List Scope → List Scope
 with_name x k [] = []
-with_name x k (s ∷ outside) = record s { names = s.names ++ (x, k) ∷ [] } ∷ outside
+with_name x k (s ∷ outside) = record s { names = entered s.names x k } ∷ outside
 
 -- from here on the innermost block shows the name
 abbrev pub shown : Ident → Known → Walk → Step

@@ -2,5 +2,9 @@
 #![tactic(auto)]
 
 mod known;
+mod names;
+mod scope;
+mod stack;
+mod walk;
 
 pub use known::{Known, Role, Scopes};
