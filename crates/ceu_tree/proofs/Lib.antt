@@ -1,4 +1,5 @@
 pub mod Sizes
+pub mod CutLaws
 pub mod Depths
 pub mod NeedLaws
 pub mod GateLaws
