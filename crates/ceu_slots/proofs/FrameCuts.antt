@@ -9,25 +9,13 @@ use Rattle.ceu_tree.specs.declared.kernel.KBlock.{KBlock, KBlock', Row_of-KNode,
 use Rattle.ceu_tree.specs.declared.kernel.KArm.{KArm, KArm'}
 use Rattle.ceu_tree.specs.declared.kernel.KStmt.{KStmt, Row_of-KArm, end_of-KArm, more_of-KArm, Row_of-KBlock, end_of-KBlock, more_of-KBlock, AwaitCode, Async, Do, If', Loop, Par', Nothing, Assign, Out, Emit, AwaitIn, AwaitTime, AwaitEvent, Forever, Spawn, Kill, Unset, Finalize, Escape, Break, Continue}
 use Rattle.ceu_tree.specs.Cut.{cut}
-use Rattle.ceu_tree.specs.Needs.{entry, decl_size, decls_size, apart, loop_size, branch_size, stmt_need, block_need, arm_need, nodes_need, arms_need, blocks_need, frame_of, frames_from, greatest_of}
-use Rattle.ceu_tree.proofs.CutLaws.{cut_plus, cut_times, cut_max, cut_idem}
-use Rattle.ceu_slots.proofs.NeedSums.{cut_apart}
-
-pub entry_cut : (k : ℕ) (table : List ℕ) → entry k (map cut table) ≡ cut (entry k table)
-entry_cut k [] = refl
-entry_cut zero (x ∷ xs) = refl
-entry_cut (suc k) (x ∷ xs) = entry_cut k xs
-
--- a sum of numbers with the same cuts
-same_plus : (a b c d : ℕ) → cut a ≡ cut b → cut c ≡ cut d → cut (a + c) ≡ cut (b + d)
-same_plus a b c d e f = grind (arith, e, f)
+use Rattle.ceu_tree.specs.Needs.{entry, decl_size, decls_size, apart, loop_size, branch_size, stmt_need, block_need, arm_need, nodes_need, arms_need, blocks_need, frame_of, frames_from}
+use Rattle.ceu_tree.proofs.CutLaws.{same_plus, same_times, cut_idem}
+use Rattle.ceu_tree.proofs.TableLaws.{entry_cut}
 
 same_apart : (plain : Bool) (a b c d : ℕ) → cut a ≡ cut b → cut c ≡ cut d → cut (apart plain a c) ≡ cut (apart plain b d)
 same_apart true a b c d e f = same_plus a b c d e f
 same_apart false a b c d e f = grind (arith, e, f)
-
-same_times : (n a b : ℕ) → cut a ≡ cut b → cut (n * a) ≡ cut (n * b)
-same_times n a b e = sym (cut_times n a) ∙ ap (λ k. cut (n * k)) e ∙ cut_times n b
 
 decl_cut : (F : List ℕ) (k : KKind) → cut (decl_size (map cut F) k) ≡ cut (decl_size F k)
 decl_cut F (kind.Var t) = refl
@@ -79,7 +67,3 @@ pub frames_more : (plain : Bool) (F : List ℕ) (cs : List KCode) (i : ℕ) (d :
 frames_more plain F [] i d h = absurd (omega arith)
 frames_more plain F (c ∷ cs) zero d h = refl
 frames_more plain F (c ∷ cs) (suc i) d h = frames_more plain (F ++ frame_of plain F c ∷ []) cs i d (omega arith)
-
-pub greatest_cut : (xs : List ℕ) → greatest_of (map cut xs) ≡ cut (greatest_of xs)
-greatest_cut [] = refl
-greatest_cut (x ∷ xs) = ap (max (cut x)) (greatest_cut xs) ∙ cut_max x (greatest_of xs)

@@ -1,14 +1,9 @@
 -- Needs of a list with one more item, and needs of cut numbers.
-use Rattle.std.proofs.Common.{◌≡◌, refl, ap, ◌∙◌, sym, ℕ, zero, suc, ◌+◌, ◌*◌, ◌≤◌, ◌<◌, min, max, List, [], ◌∷◌, ◌++◌, map, length, take, get_or, Bool, true, false, slice_index, arith}
+use Rattle.std.proofs.Common.{◌≡◌, refl, ap, ◌∙◌, sym, ℕ, zero, suc, ◌+◌, ◌*◌, ◌≤◌, ◌<◌, min, max, List, [], ◌∷◌, ◌++◌, map, length, take, get_or, Bool, true, false, arith}
 use Rattle.ceu_tree.specs.declared.kernel.KDecl.{KDecl}
 use Rattle.ceu_tree.specs.Cut.{cut}
-use Rattle.ceu_tree.specs.Greatest.{total}
-use Rattle.ceu_tree.specs.Needs.{apart, joined, decls_size, decl_size, greatest_of, entry}
-
-pub total_more : {X : Type 0} (f : X → ℕ) (xs : List X) (i : ℕ) (d : X) → i < length xs → total f (take (suc i) xs) ≡ total f (take i xs) + f (get_or xs i d)
-total_more f [] i d h = absurd (omega arith)
-total_more f (x ∷ xs) zero d h = omega arith
-total_more f (x ∷ xs) (suc i) d h = let ih : total f (take (suc i) xs) ≡ total f (take i xs) + f (get_or xs i d) = total_more f xs i d (omega arith) in omega arith
+use Rattle.ceu_tree.specs.Needs.{apart, joined, decls_size, decl_size}
+use Rattle.ceu_tree.proofs.TableLaws.{total_more}
 
 pub decls_more : (frames : List ℕ) (ds : List KDecl) (i : ℕ) (d : KDecl) → i < length ds → decls_size frames (take (suc i) ds) ≡ decls_size frames (take i ds) + decl_size frames (get_or ds i d).kind
 decls_more frames [] i d h = absurd (omega arith)
@@ -32,21 +27,4 @@ pub cut_apart : (plain : Bool) (a b : ℕ) → cut (apart plain (cut a) (cut b))
 cut_apart true a b = grind arith
 cut_apart false a b = grind arith
 
-pub greatest_more : (xs : List ℕ) (i : ℕ) (d : ℕ) → i < length xs → greatest_of (take (suc i) xs) ≡ max (greatest_of (take i xs)) (get_or xs i d)
-greatest_more [] i d h = absurd (omega arith)
-greatest_more (x ∷ xs) zero d h = grind arith
-greatest_more (x ∷ xs) (suc i) d h = let ih : greatest_of (take (suc i) xs) ≡ max (greatest_of (take i xs)) (get_or xs i d) = greatest_more xs i d (omega arith) in grind (arith, ih)
-
-pub ruleset sums = (total_more, decls_more, joined_more, cut_apart, greatest_more)
-
-pub entry_within : (table : List ℕ) (code : ℕ) → code < length table → entry code table ≡ slice_index table code
-entry_within [] code h = absurd (omega arith)
-entry_within (x ∷ xs) zero h = refl
-entry_within (x ∷ xs) (suc k) h = entry_within xs k (omega arith)
-
-pub entry_beyond : (table : List ℕ) (code : ℕ) → length table ≤ code → entry code table ≡ 0
-entry_beyond [] code h = refl
-entry_beyond (x ∷ xs) zero h = absurd (omega arith)
-entry_beyond (x ∷ xs) (suc k) h = entry_beyond xs k (omega arith)
-
-pub ruleset entries = (entry_within, entry_beyond)
+pub ruleset sums = (total_more, decls_more, joined_more, cut_apart)

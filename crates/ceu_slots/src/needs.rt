@@ -6,16 +6,8 @@ ghost use Rattle.ceu_tree.specs.Greatest.{total};
 ghost use Rattle.ceu_tree.specs.Needs as spec;
 
 use ceu_base::Ty;
-use ceu_tree::{KArm, KBlock, KCode, KDecl, KKind, KLoop, KNode, KStmt, Kernel, ParKind};
+use ceu_tree::{KArm, KBlock, KCode, KDecl, KKind, KLoop, KNode, KStmt, Kernel, ParKind, entry, greatest};
 use std::alloc::{AllocError, Global};
-
-#[tactic(auto, using(crate::proofs::NeedSums::entries))]
-fn entry(table: &[u32], code: u32) -> u32
-    ensures { result ≡ spec.entry code table.now }
-{
-    let at = code as usize;
-    if at < table.len() { table[at] } else { 0 }
-}
 
 fn type_size(ty: Ty) -> u32
     ensures { result ≡ spec.ty_size ty }
@@ -181,17 +173,6 @@ fn frames_of(alloc: Global, plain: bool, codes: &[KCode]) -> Result<Vec<u32>, Al
         frames.push(frame)?;
     }
     Ok(frames)
-}
-
-#[tactic(auto, using(crate::proofs::NeedSums::sums))]
-fn greatest(numbers: &[u32]) -> u32
-    ensures { result ≡ spec.greatest_of numbers.now }
-{
-    let mut most = 0;
-    for number in numbers {
-        most = most.max(*number);
-    }
-    most
 }
 
 // The bytes that the slots of a program take in a layout.

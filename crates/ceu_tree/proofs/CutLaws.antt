@@ -19,4 +19,14 @@ cut_times (suc n) x =
     let b : suc n * cut x ≡ n * cut x + cut x = omega arith in
     grind (arith, a, b)
 
+-- Numbers with the same cuts, in sums, products and greatest ones.
+pub same_plus : (a b c d : ℕ) → cut a ≡ cut b → cut c ≡ cut d → cut (a + c) ≡ cut (b + d)
+same_plus a b c d e f = grind (arith, e, f)
+
+pub same_max : (a b c d : ℕ) → cut a ≡ cut b → cut c ≡ cut d → cut (max a c) ≡ cut (max b d)
+same_max a b c d e f = grind (arith, e, f)
+
+pub same_times : (n a b : ℕ) → cut a ≡ cut b → cut (n * a) ≡ cut (n * b)
+same_times n a b e = sym (cut_times n a) ∙ ap (λ k. cut (n * k)) e ∙ cut_times n b
+
 pub ruleset cuts = (cut_plus, cut_max, cut_idem, cut_times)

@@ -1,7 +1,8 @@
 use Rattle.std.proofs.Common.{◌≡◌, [], arith}
 use Rattle.std.proofs.lemmas.Grind.{common_steps}
 use Rattle.ceu_tree.specs.Needs as spec
-use Rattle.ceu_slots.proofs.FrameCuts.{block_cut, greatest_cut}
+use Rattle.ceu_tree.proofs.TableLaws.{greatest_cut}
+use Rattle.ceu_slots.proofs.FrameCuts.{block_cut}
 use Rattle.ceu_slots.proofs.needs.need_of.Goals as goal
 
 pub returns : goal.returns
