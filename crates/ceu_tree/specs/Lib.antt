@@ -15,3 +15,4 @@ pub mod Around
 pub mod Step
 pub mod Run
 pub mod Text
+pub mod Cut

@@ -4,6 +4,7 @@
 mod command;
 mod kernel;
 mod source;
+mod tables;
 
 pub use command::Command;
 pub use kernel::{
@@ -14,3 +15,4 @@ pub use source::{
     Arm, Await, Block, Call, Class, Decl, Do, Exp, ExpNode, Ident, Item, Label, Node, Param, Range,
     Source, Spawn, Stmt, Target, Tree,
 };
+pub use tables::{entry, greatest};
