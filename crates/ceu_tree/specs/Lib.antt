@@ -4,3 +4,4 @@ pub mod Needs
 pub mod Paths
 pub mod Costs
 pub mod Weight
+pub mod Marks
