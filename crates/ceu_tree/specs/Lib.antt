@@ -16,3 +16,4 @@ pub mod Step
 pub mod Run
 pub mod Text
 pub mod Cut
+pub mod Marks
