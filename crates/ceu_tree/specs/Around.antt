@@ -129,7 +129,6 @@ through body (OfPar s before after) f (Ends v) w = rejoined (kind_of (out-KStmt 
 through body (OfInstance b fin before seat after r rest) f (Ends v) w = moved (Rests (Block b fin (join_instances before after) r rest)) (dead seat.number w)
 through body fr f x w = moved x w
 
-
 -- what x, which the leaf comes to, makes of the whole focus; `body` is the open body around it
 unfoldable pub up : Body → Focus Act → Outcome → World → Moved
 up body (Here a) x w = moved x w

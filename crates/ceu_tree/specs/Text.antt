@@ -13,7 +13,9 @@ use Rattle.ceu_base.specs.Values.{same}
 use Rattle.ceu_tree.specs.declared.kernel.Kernel.{Kernel}
 use Rattle.ceu_tree.specs.Costs.{bounds}
 use Rattle.ceu_tree.specs.Needs.{memory}
-use Rattle.ceu_tree.specs.Run.{Status, Reacting, Waits, HasEnded, HasFaulted}
+use Rattle.ceu_tree.specs.declared.command.Command.{Command}
+use Rattle.ceu_tree.specs.World.{World}
+use Rattle.ceu_tree.specs.Run.{Status, Reacting, Waits, HasEnded, HasFaulted, Config, world_of, status_of, run}
 
 abbrev pub newline : List ℕ
 newline = 10 ∷ []
@@ -73,6 +75,10 @@ status_line Reacting = []
 status_line Waits = codes "== waiting" ++ newline
 status_line (HasEnded v) = codes "== escape " ++ integer_text v ++ newline
 status_line (HasFaulted e) = codes "== fault " ++ fault_name e.0 ++ codes " " ++ place_text e.1 ++ newline
+
+-- what a configuration has printed, from boot on
+abbrev pub config_text : Kernel → Bool → Config → List ℕ
+config_text K all c = mark_lines K.outputs all (world_of c).marks ++ status_line (status_of c)
 
 -- the whole text of a run whose script has no bad line
 abbrev pub run_text : Kernel → Bool → List Mark → Status → List ℕ
