@@ -1,5 +1,5 @@
 -- From the answers of the parts to that of the whole.
-use Rattle.std.proofs.Common.{◌≡◌, refl, sym, subst, ℕ, zero, suc, ◌+◌, ◌<◌, ◌≤◌, ◌⊎◌, inl, inr, arith, Bool, true, false, List, length, Option, Some, None, Result, Ok, Err, nat_lt, nat_le}
+use Rattle.std.proofs.Common.{◌≡◌, refl, sym, subst, ℕ, ◌<◌, ◌≤◌, inl, inr, arith, true, false, List, length, Option, Some, None, Result, Ok, Err, nat_le}
 use Rattle.std.specs.Prelude.{IfSome, IfOk, OnOk, OnErr}
 use Rattle.std.specs.Global.{Vec}
 use Rattle.std.proofs.lemmas.Bool.Decides.{nat_tests}
@@ -15,7 +15,6 @@ use Rattle.ceu_io.specs.declared.shelves.Fetched.{Fetched}
 use Rattle.ceu_io.specs.declared.shelves.Fetched.TheVariants as fetched
 use Rattle.ceu_io.specs.declared.shelves.ShelfError.{ShelfError}
 use Rattle.ceu_io.specs.declared.shelves.ShelfError.TheVariants as failed
-use Rattle.ceu_lex.specs.Positions.{first_pos}
 use Rattle.ceu_tree.specs.declared.kernel.Kernel.{Kernel}
 use Rattle.ceu_top.specs.Answering.{status_of, Written, TextAnswer, FileAnswer, IsTextAnswer, IsFileAnswer}
 use Rattle.ceu_top.specs.Fetching.{Files, answer_of, HasFetched, IsFetch}

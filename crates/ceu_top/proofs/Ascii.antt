@@ -1,7 +1,6 @@
 -- ASCII bytes are UTF-8.
 use Rattle.std.proofs.Common.{◌≡◌, refl, ℕ, zero, suc, ◌<◌, lit<, arith, Bool, true, false, ◌&&◌, List, [], ◌∷◌, nat_lt}
 use Rattle.std.specs.Prelude.{IsUtf8, slice_index}
-use Rattle.std.specs.Str.{IsAscii}
 use Rattle.std.proofs.lemmas.Bool.Decides.{nat_tests}
 use Rattle.std.proofs.lemmas.Str.{IsUtf8-from_ascii}
 use Rattle.ceu_top.specs.Names.{is_ascii_text}

@@ -1,10 +1,10 @@
 -- The clauses of `ceu`, from the one answer that holds all of them.
-use Rattle.std.proofs.Common.{◌≡◌, ◌≢◌, refl, sym, subst, ℕ, ◌<◌, ◌≤◌, ◌⊎◌, inl, inr, arith, List, [], ◌++◌, length, Option, Some, None}
+use Rattle.std.proofs.Common.{◌≡◌, ◌≢◌, refl, sym, subst, ℕ, ◌<◌, ◌⊎◌, inl, inr, arith, List, [], length, Option, Some, None}
 use Rattle.std.specs.Prelude.{IfSome, MatchOption, String}
 use Rattle.std.proofs.lemmas.List.{append-nil}
 use Rattle.ceu_io.specs.Bytes.{Appends, AppendsProperFront}
-use Rattle.ceu_io.specs.Counts.{Rose, Quiet, last_count}
-use Rattle.ceu_top.specs.Answering.{TextAnswer, FileAnswer, Answer, IsAnswer}
+use Rattle.ceu_io.specs.Counts.{Rose, Quiet}
+use Rattle.ceu_top.specs.Answering.{FileAnswer, Answer, IsAnswer}
 use Rattle.ceu_top.specs.Command.{file_of}
 use Rattle.ceu_top.specs.Fetching.{Files}
 use Rattle.ceu_top.specs.Outcomes.{Runs, Refuses, Prints, IsText, IsAbsent, IsTooLong, Outcome, On, Headline, IsDone, IsRefusal, IsCutShort, IsUnwritten, UnlessFailed}

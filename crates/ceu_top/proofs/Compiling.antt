@@ -1,5 +1,5 @@
 -- Refusals of a text.
-use Rattle.std.proofs.Common.{◌≡◌, refl, subst, ◌⊎◌, inl, inr, ℕ, List, Option, Some, None, Result, Ok, Err}
+use Rattle.std.proofs.Common.{◌≡◌, refl, subst, inl, inr, ℕ, List, Err}
 use Rattle.ceu_lex.specs.Texts.{Reads}
 use Rattle.ceu_lex.specs.Texts as lexing
 use Rattle.ceu_lex.specs.declared.lexer.LexError.{LexError}

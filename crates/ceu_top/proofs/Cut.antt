@@ -1,8 +1,8 @@
 -- A list is cut at its first separator, by the place that `position` gives.
-use Rattle.std.proofs.Common.{◌≡◌, refl, sym, subst, ap, ℕ, zero, suc, ◌+◌, ◌<◌, ◌≤◌, arith, Bool, true, false, cond, not, List, [], ◌∷◌, length, take, drop, Option, Some, None, nat_lt, length-drop}
+use Rattle.std.proofs.Common.{◌≡◌, refl, sym, subst, ℕ, suc, ◌+◌, ◌<◌, ◌≤◌, arith, Bool, true, false, cond, List, [], ◌∷◌, length, take, drop, Option, Some, None, nat_lt, length-drop}
 use Rattle.std.specs.List.{position, position_or_len}
 use Rattle.std.proofs.lemmas.Bool.Decides.{nat_tests}
-use Rattle.ceu_top.specs.Cuts.{Cut, cut, before, IsCut}
+use Rattle.ceu_top.specs.Cuts.{cut, before}
 
 lt_true : (a b : ℕ) → nat_lt a b ≡ true → a < b
 lt_true a b e = grind (arith, nat_tests)

@@ -12,7 +12,7 @@ use Rattle.ceu_top.specs.Echo.{Values, Effect, Goes, Emits, Ends, End, Left, Run
 use Rattle.ceu_top.specs.Lines.{memory_line}
 use Rattle.ceu_top.specs.Outcomes.{run_lines}
 use Rattle.ceu_top.specs.declared.script.Command.{Command}
-use Rattle.ceu_top.proofs.Written.{Printed, printed_same, printed_more, printed_whole, printed_front, front_first}
+use Rattle.ceu_top.proofs.Written.{Printed, printed_same, printed_whole, printed_front, front_first}
 
 opens : (s : KNode) (rest : List KNode) (v : Values) (cs : List Command) → runs (s ∷ rest) v cs ≡ after_effect (effect (out-KStmt s.stmt) v cs) (λ w ds. runs rest w ds) v cs
 unfolding runs

@@ -1,6 +1,6 @@
 -- The parts of a list, taken in turn.
-use Rattle.std.proofs.Common.{◌≡◌, refl, List, [], ◌∷◌, Option, Some, None, Result, Ok, Err}
-use Rattle.ceu_top.specs.Cuts.{Cut, turns, in_turn, and_then}
+use Rattle.std.proofs.Common.{◌≡◌, refl, List, [], ◌∷◌, Option, Some, Result, Err}
+use Rattle.ceu_top.specs.Cuts.{Cut, in_turn, and_then}
 use Rattle.ceu_top.specs.Drafts.{Answers}
 use Rattle.ceu_top.specs.declared.draft.NotRead.{NotRead}
 use Rattle.ceu_top.specs.declared.draft.NotRead.TheVariants.{Unbuilt, Memory}

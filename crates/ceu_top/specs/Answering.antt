@@ -7,7 +7,7 @@ use Rattle.ceu_top.specs.Command.{file_of}
 use Rattle.ceu_top.specs.Fetching.{Files}
 use Rattle.ceu_top.specs.Outcomes.{Runs, Refuses, Prints}
 use Rattle.ceu_top.specs.declared.status.Status.{Status}
-use Rattle.ceu_top.specs.declared.status.Status.TheVariants.{Done, Refused, Words, Script, Fault, Read, Write, Memory, Absent, TooLong}
+use Rattle.ceu_top.specs.declared.status.Status.TheVariants.{Done, Refused, Words, Read, Write, Memory, Absent, TooLong}
 
 abbrev pub status_of : Result (Unit {0}) Failed → Status → Status
 status_of (Ok u) whole = whole

@@ -4,9 +4,7 @@ use Rattle.std.specs.List.{list_all}
 use Rattle.ceu_base.specs.declared.kinds.Pos.{Pos}
 use Rattle.ceu_base.specs.declared.kinds.Port.{Port}
 use Rattle.ceu_base.specs.declared.kinds.Ty.TheVariants.{S32}
-use Rattle.ceu_tree.specs.declared.kernel.KDecl.{KDecl}
 use Rattle.ceu_tree.specs.declared.kernel.KKind.TheVariants.{Var}
-use Rattle.ceu_tree.specs.declared.kernel.KNode.{KNode}
 use Rattle.ceu_tree.specs.declared.kernel.KStmt.{KStmt}
 use Rattle.ceu_tree.specs.declared.kernel.KBlock.{out-KBlock, roll-KBlock}
 use Rattle.ceu_tree.specs.declared.kernel.Kernel.{Kernel}

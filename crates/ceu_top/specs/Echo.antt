@@ -1,6 +1,6 @@
 -- What flat statements mean: assignments, awaits of inputs, emissions of outputs and escapes, in one trail. Each emission of an output
 -- is marked; an input goes to the statement that awaits it, and is lost where another one is awaited.
-use Rattle.std.specs.Prelude.{◌≡◌, ℕ, zero, suc, ℤ, pos, List, [], ◌∷◌, ◌++◌, Bool, Option, Some, None, if◌then◌else◌, ◌==◌, slice_get, unwrap_or, slice_set, length, nat_lt}
+use Rattle.std.specs.Prelude.{ℕ, ℤ, pos, List, [], ◌∷◌, ◌++◌, Bool, Option, Some, None, if◌then◌else◌, ◌==◌, slice_get, unwrap_or, slice_set, length, nat_lt}
 use Rattle.ceu_base.specs.declared.kinds.Port.{Port}
 use Rattle.ceu_base.specs.declared.kinds.Mark.{Mark}
 use Rattle.ceu_base.specs.declared.kinds.Mark.TheVariants as mark
@@ -14,7 +14,7 @@ use Rattle.ceu_tree.specs.declared.kernel.KStmt.{KStmt, out-KStmt}
 use Rattle.ceu_tree.specs.declared.kernel.KStmt.TheOpen.{KStmt-F}
 use Rattle.ceu_tree.specs.declared.kernel.Kernel.{Kernel}
 use Rattle.ceu_top.specs.Drafts as drafts
-use Rattle.ceu_top.specs.Lines.{output_line, escape_line, waiting_line, memory_line}
+use Rattle.ceu_top.specs.Lines.{output_line, escape_line, waiting_line}
 use Rattle.ceu_top.specs.declared.script.Command.{Command}
 
 -- the values of the variables, by their slots

@@ -1,6 +1,5 @@
 -- What a step of the runner answers.
-use denote.Ref.{Bor}
-use Rattle.std.specs.Prelude.{◌≡◌, ℤ, List}
+use Rattle.std.specs.Prelude.{◌≡◌}
 use Rattle.ceu_top.specs.Echo as echo
 use Rattle.ceu_top.specs.Echo.{Values}
 use Rattle.ceu_top.specs.declared.runner.Effect.{Effect}

@@ -7,7 +7,7 @@ use Rattle.ceu_io.specs.declared.shelves.Fetched.TheVariants as fetched
 use Rattle.ceu_io.specs.declared.shelves.ShelfError.{ShelfError}
 use Rattle.ceu_io.specs.declared.shelves.ShelfError.TheVariants as failed
 use Rattle.ceu_top.specs.declared.status.Status.{Status}
-use Rattle.ceu_top.specs.declared.status.Status.TheVariants.{Done, Refused, Words, Script, Fault, Read, Write, Memory, Absent, TooLong}
+use Rattle.ceu_top.specs.declared.status.Status.TheVariants.{Read, Memory, Absent, TooLong}
 
 -- the file of each name
 abbrev pub Files : Type 0

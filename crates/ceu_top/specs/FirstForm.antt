@@ -1,6 +1,6 @@
 -- The first form: a list of declarations, assignments, awaits of inputs, emissions of outputs and escapes, over variables of type `int`
 -- and values that are numbers or variables. Each statement ends with its `;`.
-use Rattle.std.specs.Prelude.{ℕ, ◌+◌, ℤ, pos, Bool, true, false, ◌&&◌, ◌||◌, not, List, [], ◌∷◌, length, Option, Some, None, is_some, if◌then◌else◌, nat_le}
+use Rattle.std.specs.Prelude.{ℕ, pos, Bool, true, false, ◌&&◌, ◌||◌, List, [], ◌∷◌, length, Option, Some, None, is_some, if◌then◌else◌, nat_le}
 use Rattle.std.specs.List.{list_all}
 use Rattle.std.specs.Char.{is_ascii_digit}
 use Rattle.ceu_base.specs.declared.kinds.Pos.{Pos}

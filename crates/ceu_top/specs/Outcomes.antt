@@ -1,11 +1,10 @@
 -- What a call of `ceu` comes to: its status, what it writes, and why.
-use Rattle.std.specs.Prelude.{◌≡◌, ◌≢◌, ◌⊎◌, ◌==◌, ℕ, ◌+◌, ◌*◌, ◌<◌, ◌≤◌, List, [], ◌++◌, length, Option, Some, None, IfSome, IsSome, Result, Ok, Err, if◌then◌else◌, String}
+use Rattle.std.specs.Prelude.{◌≡◌, ◌≢◌, ◌==◌, ℕ, ◌+◌, ◌*◌, ◌<◌, ◌≤◌, List, [], ◌++◌, length, Option, Some, None, IfSome, String}
 use Rattle.std.specs.Bool.{MatchBool}
 use Rattle.ceu_base.specs.declared.kinds.Pos.{Pos}
 use Rattle.ceu_base.specs.declared.kinds.Rule.{Rule}
 use Rattle.ceu_io.specs.Bytes.{Appends, AppendsProperFront}
-use Rattle.ceu_io.specs.Counts.{Rose, Quiet}
-use Rattle.ceu_io.specs.declared.outside.Failed.{Failed}
+use Rattle.ceu_io.specs.Counts.{Quiet}
 use Rattle.ceu_tree.specs.declared.kernel.Kernel.{Kernel}
 use Rattle.ceu_top.specs.Command.{file_of}
 use Rattle.ceu_top.specs.Echo.{Values, text_of}

@@ -1,5 +1,5 @@
 -- What is taken before anything is written: the kernel, the commands and the values of the variables.
-use Rattle.std.specs.Prelude.{◌≡◌, ◌⊎◌, ℕ, ◌<◌, ◌≤◌, ℤ, pos, IsTrue, List, length, replicate, Option, Some, None, IfSome, Result, Ok, Err, if◌then◌else◌, nat_le}
+use Rattle.std.specs.Prelude.{◌≡◌, ◌⊎◌, ℕ, ◌<◌, ◌≤◌, pos, IsTrue, List, length, replicate, Option, Some, None, IfSome, Result, Ok, Err, if◌then◌else◌, nat_le}
 use Rattle.std.specs.Global.{Vec}
 use Rattle.ceu_base.specs.declared.kinds.Pos.{Pos}
 use Rattle.ceu_base.specs.declared.kinds.Rule.{Rule}

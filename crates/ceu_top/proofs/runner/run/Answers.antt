@@ -1,4 +1,4 @@
-use Rattle.std.proofs.Common.{◌≡◌, sym, subst, ◌∙◌, ◌+◌, arith, pos, drop, List, ℕ, ℤ, to_z, of_z, rules, FitsSigned}
+use Rattle.std.proofs.Common.{◌≡◌, subst, ◌∙◌, ◌+◌, arith, pos, drop, List, ℤ, to_z, of_z, rules, FitsSigned}
 use Rattle.std.proofs.lemmas.Int.{to_z-of_z}
 use Rattle.std.specs.Int.{w128}
 use Rattle.std.specs.Prelude.{OnOk, OnErr}
@@ -7,7 +7,7 @@ use Rattle.ceu_io.specs.Bytes.{Appends, AppendsProperFront}
 use Rattle.ceu_tree.specs.declared.kernel.KBlock.{out-KBlock}
 use Rattle.ceu_top.specs.Echo.{Left, Waiting, text_of, run_text, runs, emitted, end_line}
 use Rattle.ceu_top.proofs.Running.{at_node, past_nodes, printed_over, printed_goes, printed_emits, printed_ends, whole_after, front_after, front_amid}
-use Rattle.ceu_top.proofs.Written.{Printed, printed_more}
+use Rattle.ceu_top.proofs.Written.{printed_more}
 use Rattle.ceu_top.proofs.runner.run.Goals as goal
 use Rattle.ceu_top.proofs.runner.run.Goals.{in-Goes, in-Emits+in_ok-emit-in-Emits}
 
