@@ -11,6 +11,7 @@ use ceu_top::{Status, ceu};
 use faults::fault_line;
 use std::alloc::AllocError;
 use std::env;
+use std::io::ErrorKind;
 use std::process::ExitCode;
 
 fn main(rt: HostRuntime) -> ExitCode {
@@ -31,7 +32,14 @@ fn run(rt: &HostRuntime) -> Status {
                 Err(_) => Status::Memory,
             }
         }
-        Err(_) => Status::Memory,
+        Err(error) => {
+            if error.kind() == ErrorKind::OutOfMemory {
+                Status::Memory
+            } else {
+                // A word that is no text is no word of a command.
+                Status::Words
+            }
+        }
     }
 }
 
