@@ -40,7 +40,7 @@ escapes_costs : bounds escapes ≡ cost 1 0
 unfolding escapes measured
 escapes_costs = refl
 
--- 
+--
 empty : Kernel
 unfolding block
 empty =
@@ -71,8 +71,8 @@ echo : Kernel
 unfolding block
 echo =
     kernel (block 0 ((declared 0 (kind.Var ty.S32)) ∷ []) (node 1 3 1 (k.AwaitIn 0 (Some (loc false 0 ty.S32))) ∷ node 2 4 1 (k.Out 0 (Some (read
-        ty.S32 4 8 (loc false 0 ty.S32)))) ∷ node 3 5 1 (k.Escape 0 (Some (read ty.S32 5 8 (loc false 0 ty.S32)))) ∷ [])) ([]) ((port ty.S32 (codes
-        "A")) ∷ []) ((port ty.S32 (codes "O")) ∷ []) ([])
+    ty.S32 4 8 (loc false 0 ty.S32)))) ∷ node 3 5 1 (k.Escape 0 (Some (read ty.S32 5 8 (loc false 0 ty.S32)))) ∷ [])) ([]) ((port ty.S32 (codes
+    "A")) ∷ []) ((port ty.S32 (codes "O")) ∷ []) ([])
 
 echo_prints : shown false (world_of (run echo 20000 (Input 0 (pos 5) ∷ []))).marks ≡ (Output 0 (pos 5) ∷ [])
 unfolding echo computed
@@ -98,9 +98,9 @@ in_order : Kernel
 unfolding block
 in_order =
     kernel (block 0 ([]) (node 1 2 1 (k.Par par.Never 0 ((block 2 ([]) (node 3 2 8 (k.Loop turns.Free (block 4 ([]) (node 5 2 8 (k.AwaitIn 0 None) ∷
-        node 6 2 19 (k.Out 0 (Some (const ty.S32 2 26 (pos 2)))) ∷ []))) ∷ [])) ∷ (block 7 ([]) (node 8 3 6 (k.Loop turns.Free (block 9 ([]) (node 10
-        3 6 (k.AwaitIn 0 None) ∷ node 11 3 17 (k.Out 0 (Some (const ty.S32 3 24 (pos 1)))) ∷ []))) ∷ [])) ∷ [])) ∷ [])) ([]) ((port ty.None (codes
-        "A")) ∷ []) ((port ty.S32 (codes "O")) ∷ []) ([])
+    node 6 2 19 (k.Out 0 (Some (const ty.S32 2 26 (pos 2)))) ∷ []))) ∷ [])) ∷ (block 7 ([]) (node 8 3 6 (k.Loop turns.Free (block 9 ([]) (node 10
+    3 6 (k.AwaitIn 0 None) ∷ node 11 3 17 (k.Out 0 (Some (const ty.S32 3 24 (pos 1)))) ∷ []))) ∷ [])) ∷ [])) ∷ [])) ([]) ((port ty.None (codes
+    "A")) ∷ []) ((port ty.S32 (codes "O")) ∷ []) ([])
 
 in_order_prints : shown false (world_of (run in_order 20000 (Input 0 (pos 0) ∷ []))).marks ≡ (Output 0 (pos 2) ∷ Output 0 (pos 1) ∷ [])
 unfolding in_order computed
@@ -128,9 +128,9 @@ late_timer : Kernel
 unfolding block
 late_timer =
     kernel (block 0 ((declared 0 (kind.Var ty.S32)) ∷ []) (node 1 2 1 (k.AwaitTime (const ty.S64 2 1 (pos 10000)) unit.Us (Some (loc false 0 ty.S32)))
-        ∷ node 2 3 1 (k.Out 0 (Some (read ty.S32 3 8 (loc false 0 ty.S32)))) ∷ node 3 4 1 (k.AwaitTime (const ty.S64 4 1 (pos 1000)) unit.Us (Some
-        (loc false 0 ty.S32))) ∷ node 4 5 1 (k.Out 0 (Some (read ty.S32 5 8 (loc false 0 ty.S32)))) ∷ node 5 6 1 k.Forever ∷ [])) ([]) ([]) ((port
-        ty.S32 (codes "O")) ∷ []) ([])
+    ∷ node 2 3 1 (k.Out 0 (Some (read ty.S32 3 8 (loc false 0 ty.S32)))) ∷ node 3 4 1 (k.AwaitTime (const ty.S64 4 1 (pos 1000)) unit.Us (Some
+    (loc false 0 ty.S32))) ∷ node 4 5 1 (k.Out 0 (Some (read ty.S32 5 8 (loc false 0 ty.S32)))) ∷ node 5 6 1 k.Forever ∷ [])) ([]) ([]) ((port
+    ty.S32 (codes "O")) ∷ []) ([])
 
 late_timer_prints : shown false (world_of (run late_timer 20000 (Advance 15000 ∷ []))).marks ≡ (Output 0 (pos 5000) ∷ Output 0 (pos 4000) ∷ [])
 unfolding late_timer computed
@@ -158,9 +158,9 @@ early_timer : Kernel
 unfolding block
 early_timer =
     kernel (block 0 ((declared 0 (kind.Var ty.S32)) ∷ []) (node 1 2 1 (k.AwaitTime (const ty.S64 2 1 (pos 10000)) unit.Us (Some (loc false 0 ty.S32)))
-        ∷ node 2 3 1 (k.Out 0 (Some (read ty.S32 3 8 (loc false 0 ty.S32)))) ∷ node 3 4 1 (k.AwaitTime (const ty.S64 4 1 (pos 1000)) unit.Us (Some
-        (loc false 0 ty.S32))) ∷ node 4 5 1 (k.Out 0 (Some (read ty.S32 5 8 (loc false 0 ty.S32)))) ∷ node 5 6 1 k.Forever ∷ [])) ([]) ([]) ((port
-        ty.S32 (codes "O")) ∷ []) ([])
+    ∷ node 2 3 1 (k.Out 0 (Some (read ty.S32 3 8 (loc false 0 ty.S32)))) ∷ node 3 4 1 (k.AwaitTime (const ty.S64 4 1 (pos 1000)) unit.Us (Some
+    (loc false 0 ty.S32))) ∷ node 4 5 1 (k.Out 0 (Some (read ty.S32 5 8 (loc false 0 ty.S32)))) ∷ node 5 6 1 k.Forever ∷ [])) ([]) ([]) ((port
+    ty.S32 (codes "O")) ∷ []) ([])
 
 early_timer_prints : shown false (world_of (run early_timer 20000 (Advance 9000 ∷ []))).marks ≡ ([])
 unfolding early_timer computed
@@ -189,9 +189,9 @@ same_time : Kernel
 unfolding block
 same_time =
     kernel (block 0 ([]) (node 1 2 1 (k.Par par.And 0 ((block 2 ([]) (node 3 3 5 (k.AwaitTime (const ty.S64 3 5 (pos 5000)) unit.Us None) ∷ node 4 3
-        16 (k.AwaitTime (const ty.S64 3 16 (pos 5000)) unit.Us None) ∷ node 5 3 27 (k.Out 0 (Some (const ty.S32 3 34 (pos 1)))) ∷ [])) ∷ (block 6 ([])
-        (node 7 5 5 (k.AwaitTime (const ty.S64 5 5 (pos 10000)) unit.Us None) ∷ node 8 5 17 (k.Out 0 (Some (const ty.S32 5 24 (pos 2)))) ∷ [])) ∷ []))
-        ∷ node 9 7 1 (k.Escape 0 (Some (const ty.S32 7 8 (pos 0)))) ∷ [])) ([]) ([]) ((port ty.S32 (codes "O")) ∷ []) ([])
+    16 (k.AwaitTime (const ty.S64 3 16 (pos 5000)) unit.Us None) ∷ node 5 3 27 (k.Out 0 (Some (const ty.S32 3 34 (pos 1)))) ∷ [])) ∷ (block 6 ([])
+    (node 7 5 5 (k.AwaitTime (const ty.S64 5 5 (pos 10000)) unit.Us None) ∷ node 8 5 17 (k.Out 0 (Some (const ty.S32 5 24 (pos 2)))) ∷ [])) ∷ []))
+    ∷ node 9 7 1 (k.Escape 0 (Some (const ty.S32 7 8 (pos 0)))) ∷ [])) ([]) ([]) ((port ty.S32 (codes "O")) ∷ []) ([])
 
 same_time_prints : shown false (world_of (run same_time 20000 (Advance 10000 ∷ []))).marks ≡ (Output 0 (pos 1) ∷ Output 0 (pos 2) ∷ [])
 unfolding same_time computed
@@ -222,8 +222,8 @@ emitter_gone : Kernel
 unfolding block
 emitter_gone =
     kernel (block 0 ([]) (node 1 3 1 (k.Par par.Or 0 ((block 2 ([]) (node 3 4 5 (k.AwaitEvent 0 None) ∷ [])) ∷ (block 4 ([]) (node 5 6 5 (k.Emit 0
-        None) ∷ node 6 7 5 (k.Out 0 (Some (const ty.S32 7 12 (pos 1)))) ∷ [])) ∷ [])) ∷ node 7 9 1 (k.Out 0 (Some (const ty.S32 9 8 (pos 2)))) ∷ []))
-        ([]) ([]) ((port ty.S32 (codes "O")) ∷ []) ((event ty.None None) ∷ [])
+    None) ∷ node 6 7 5 (k.Out 0 (Some (const ty.S32 7 12 (pos 1)))) ∷ [])) ∷ [])) ∷ node 7 9 1 (k.Out 0 (Some (const ty.S32 9 8 (pos 2)))) ∷ []))
+    ([]) ([]) ((port ty.S32 (codes "O")) ∷ []) ((event ty.None None) ∷ [])
 
 emitter_gone_prints : shown true (world_of (run emitter_gone 20000 ([]))).marks ≡ (Resume 0 ∷ Resume 0 ∷ Push 1 ∷ Resume 1 ∷ Output 0 (pos 2) ∷ [])
 unfolding emitter_gone computed
@@ -252,8 +252,8 @@ emitted_twice : Kernel
 unfolding block
 emitted_twice =
     kernel (block 0 ([]) (node 1 3 1 (k.Par par.Or 0 ((block 2 ([]) (node 3 4 5 (k.Loop turns.Free (block 4 ([]) (node 5 4 5 (k.AwaitEvent 0 None) ∷
-        node 6 4 16 (k.Out 0 (Some (const ty.S32 4 23 (pos 1)))) ∷ []))) ∷ [])) ∷ (block 7 ([]) (node 8 6 5 (k.Emit 0 None) ∷ node 9 6 13 (k.Emit 0
-        None) ∷ [])) ∷ [])) ∷ [])) ([]) ([]) ((port ty.S32 (codes "O")) ∷ []) ((event ty.None None) ∷ [])
+    node 6 4 16 (k.Out 0 (Some (const ty.S32 4 23 (pos 1)))) ∷ []))) ∷ [])) ∷ (block 7 ([]) (node 8 6 5 (k.Emit 0 None) ∷ node 9 6 13 (k.Emit 0
+    None) ∷ [])) ∷ [])) ∷ [])) ([]) ([]) ((port ty.S32 (codes "O")) ∷ []) ((event ty.None None) ∷ [])
 
 emitted_twice_prints : shown false (world_of (run emitted_twice 20000 ([]))).marks ≡ (Output 0 (pos 1) ∷ Output 0 (pos 1) ∷ [])
 unfolding emitted_twice computed

@@ -35,12 +35,12 @@ async_rounds : Kernel
 unfolding block
 async_rounds =
     kernel (block 0 ((declared 0 (kind.Var ty.S32)) ∷ []) (node 1 2 1 (k.Assign (loc false 0 ty.S32) (const ty.S32 2 13 (pos 0))) ∷ node 2 3 1 (k.Par
-        par.Never 0 ((block 3 ([]) (node 4 4 5 (k.Async (block 5 ([]) (node 6 5 9 (k.Loop (turns.Range 1 2 3 false (const ty.S32 5 20 (pos 0)) (const
-        ty.S32 5 25 (pos 3)) true) (block 7 ([]) (node 8 6 13 (k.Assign (loc false 0 ty.S32) (two ty.S32 6 19 op2.Add (read ty.S32 6 17 (loc false 0
-        ty.S32)) (const ty.S32 6 21 (pos 1)))) ∷ []))) ∷ []))) ∷ node 9 9 5 (k.Out 0 (Some (read ty.S32 9 12 (loc false 0 ty.S32)))) ∷ node 10 10 5
-        k.Forever ∷ [])) ∷ (block 11 ([]) (node 12 12 5 (k.Loop turns.Free (block 13 ([]) (node 14 12 5 (k.AwaitIn 0 None) ∷ node 15 12 16 (k.Out 0
-        (Some (read ty.S32 12 23 (loc false 0 ty.S32)))) ∷ []))) ∷ [])) ∷ [])) ∷ [])) ([]) ((port ty.None (codes "A")) ∷ []) ((port ty.S32 (codes
-        "O")) ∷ []) ([])
+    par.Never 0 ((block 3 ([]) (node 4 4 5 (k.Async (block 5 ([]) (node 6 5 9 (k.Loop (turns.Range 1 2 3 false (const ty.S32 5 20 (pos 0)) (const
+    ty.S32 5 25 (pos 3)) true) (block 7 ([]) (node 8 6 13 (k.Assign (loc false 0 ty.S32) (two ty.S32 6 19 op2.Add (read ty.S32 6 17 (loc false 0
+    ty.S32)) (const ty.S32 6 21 (pos 1)))) ∷ []))) ∷ []))) ∷ node 9 9 5 (k.Out 0 (Some (read ty.S32 9 12 (loc false 0 ty.S32)))) ∷ node 10 10 5
+    k.Forever ∷ [])) ∷ (block 11 ([]) (node 12 12 5 (k.Loop turns.Free (block 13 ([]) (node 14 12 5 (k.AwaitIn 0 None) ∷ node 15 12 16 (k.Out 0
+    (Some (read ty.S32 12 23 (loc false 0 ty.S32)))) ∷ []))) ∷ [])) ∷ [])) ∷ [])) ([]) ((port ty.None (codes "A")) ∷ []) ((port ty.S32 (codes
+    "O")) ∷ []) ([])
 
 async_rounds_prints : shown false (world_of (run async_rounds 20000 (Idle 2 ∷ Input 0 (pos 0) ∷ Idle 2 ∷ Idle 5 ∷ []))).marks ≡ (Output 0 (pos 2) ∷ Output 0 (pos 3) ∷ [])
 unfolding async_rounds computed
@@ -75,12 +75,12 @@ async_ends : Kernel
 unfolding block
 async_ends =
     kernel (block 0 ((declared 0 (kind.Var ty.S32)) ∷ []) (node 1 2 1 (k.Assign (loc false 0 ty.S32) (const ty.S32 2 13 (pos 0))) ∷ node 2 3 1 (k.Par
-        par.Never 0 ((block 3 ([]) (node 4 4 5 (k.Async (block 5 ([]) (node 6 5 9 (k.Loop (turns.Range 1 2 3 false (const ty.S32 5 20 (pos 0)) (const
-        ty.S32 5 25 (pos 3)) true) (block 7 ([]) (node 8 6 13 (k.Assign (loc false 0 ty.S32) (two ty.S32 6 19 op2.Add (read ty.S32 6 17 (loc false 0
-        ty.S32)) (const ty.S32 6 21 (pos 1)))) ∷ []))) ∷ []))) ∷ node 9 9 5 (k.Out 0 (Some (read ty.S32 9 12 (loc false 0 ty.S32)))) ∷ node 10 10 5
-        k.Forever ∷ [])) ∷ (block 11 ([]) (node 12 12 5 (k.Loop turns.Free (block 13 ([]) (node 14 12 5 (k.AwaitIn 0 None) ∷ node 15 12 16 (k.Out 0
-        (Some (read ty.S32 12 23 (loc false 0 ty.S32)))) ∷ []))) ∷ [])) ∷ [])) ∷ [])) ([]) ((port ty.None (codes "A")) ∷ []) ((port ty.S32 (codes
-        "O")) ∷ []) ([])
+    par.Never 0 ((block 3 ([]) (node 4 4 5 (k.Async (block 5 ([]) (node 6 5 9 (k.Loop (turns.Range 1 2 3 false (const ty.S32 5 20 (pos 0)) (const
+    ty.S32 5 25 (pos 3)) true) (block 7 ([]) (node 8 6 13 (k.Assign (loc false 0 ty.S32) (two ty.S32 6 19 op2.Add (read ty.S32 6 17 (loc false 0
+    ty.S32)) (const ty.S32 6 21 (pos 1)))) ∷ []))) ∷ []))) ∷ node 9 9 5 (k.Out 0 (Some (read ty.S32 9 12 (loc false 0 ty.S32)))) ∷ node 10 10 5
+    k.Forever ∷ [])) ∷ (block 11 ([]) (node 12 12 5 (k.Loop turns.Free (block 13 ([]) (node 14 12 5 (k.AwaitIn 0 None) ∷ node 15 12 16 (k.Out 0
+    (Some (read ty.S32 12 23 (loc false 0 ty.S32)))) ∷ []))) ∷ [])) ∷ [])) ∷ [])) ([]) ((port ty.None (codes "A")) ∷ []) ((port ty.S32 (codes
+    "O")) ∷ []) ([])
 
 async_ends_prints : shown false (world_of (run async_ends 20000 (Idle 4 ∷ Input 0 (pos 0) ∷ []))).marks ≡ (Output 0 (pos 3) ∷ Output 0 (pos 3) ∷ [])
 unfolding async_ends computed
@@ -103,8 +103,8 @@ shared_slots : Kernel
 unfolding block
 shared_slots =
     kernel (block 0 ([]) (node 1 1 1 (k.Do None (block 2 ((declared 0 (kind.Var ty.S32)) ∷ []) (node 3 1 4 (k.Assign (loc false 0 ty.S32) (const
-        ty.S32 1 16 (pos 1))) ∷ []))) ∷ node 4 1 23 (k.Do None (block 5 ((declared 1 (kind.Var ty.S64)) ∷ []) (node 6 1 26 (k.Assign (loc false 1
-        ty.S64) (const ty.S64 1 38 (pos 2))) ∷ []))) ∷ node 7 1 45 (k.Escape 0 (Some (const ty.S32 1 52 (pos 0)))) ∷ [])) ([]) ([]) ([]) ([])
+    ty.S32 1 16 (pos 1))) ∷ []))) ∷ node 4 1 23 (k.Do None (block 5 ((declared 1 (kind.Var ty.S64)) ∷ []) (node 6 1 26 (k.Assign (loc false 1
+    ty.S64) (const ty.S64 1 38 (pos 2))) ∷ []))) ∷ node 7 1 45 (k.Escape 0 (Some (const ty.S32 1 52 (pos 0)))) ∷ [])) ([]) ([]) ([]) ([])
 
 shared_slots_prints : shown false (world_of (run shared_slots 20000 ([]))).marks ≡ ([])
 unfolding shared_slots computed
@@ -129,8 +129,8 @@ every_value : Kernel
 unfolding block
 every_value =
     kernel (block 0 ((declared 0 (kind.Var ty.S32)) ∷ []) (node 1 2 1 (k.Assign (loc false 0 ty.S32) (const ty.S32 2 1 (pos 0))) ∷ node 2 3 1 (k.Loop
-        turns.Free (block 3 ([]) (node 4 3 1 (k.AwaitIn 0 (Some (loc false 0 ty.S32))) ∷ node 5 3 17 (k.Out 0 (Some (read ty.S32 3 24 (loc false 0
-        ty.S32)))) ∷ []))) ∷ [])) ([]) ((port ty.S32 (codes "A")) ∷ []) ((port ty.S32 (codes "O")) ∷ []) ([])
+    turns.Free (block 3 ([]) (node 4 3 1 (k.AwaitIn 0 (Some (loc false 0 ty.S32))) ∷ node 5 3 17 (k.Out 0 (Some (read ty.S32 3 24 (loc false 0
+    ty.S32)))) ∷ []))) ∷ [])) ([]) ((port ty.S32 (codes "A")) ∷ []) ((port ty.S32 (codes "O")) ∷ []) ([])
 
 every_value_prints : shown false (world_of (run every_value 20000 (Input 0 (pos 1) ∷ Input 0 (pos 2) ∷ []))).marks ≡ (Output 0 (pos 1) ∷ Output 0 (pos 2) ∷ [])
 unfolding every_value computed
@@ -180,10 +180,10 @@ one_trail : Kernel
 unfolding block
 one_trail =
     kernel (block 0 ((declared 0 (kind.Var ty.S32)) ∷ []) (node 1 1 1 (k.Do (Some (loc false 0 ty.S32)) (block 2 ([]) (node 3 2 5 (k.Loop (turns.Range
-        1 2 3 false (const ty.S32 2 16 (pos 0)) (const ty.S32 2 21 (pos 5)) true) (block 4 ([]) (node 5 3 9 (k.If ((arm (two ty.Bool 3 14 op2.Eq (read
-        ty.S32 3 12 (loc false 1 ty.S32)) (const ty.S32 3 17 (pos 3))) (block 6 ([]) (node 7 3 24 (k.Escape 1 (Some (read ty.S32 3 31 (loc false 1
-        ty.S32)))) ∷ []))) ∷ []) (block 8 ([]) ([]))) ∷ []))) ∷ []))) ∷ node 9 6 1 (k.Escape 0 (Some (read ty.S32 6 8 (loc false 0 ty.S32)))) ∷ []))
-        ([]) ([]) ([]) ([])
+    1 2 3 false (const ty.S32 2 16 (pos 0)) (const ty.S32 2 21 (pos 5)) true) (block 4 ([]) (node 5 3 9 (k.If ((arm (two ty.Bool 3 14 op2.Eq (read
+    ty.S32 3 12 (loc false 1 ty.S32)) (const ty.S32 3 17 (pos 3))) (block 6 ([]) (node 7 3 24 (k.Escape 1 (Some (read ty.S32 3 31 (loc false 1
+    ty.S32)))) ∷ []))) ∷ []) (block 8 ([]) ([]))) ∷ []))) ∷ []))) ∷ node 9 6 1 (k.Escape 0 (Some (read ty.S32 6 8 (loc false 0 ty.S32)))) ∷ []))
+    ([]) ([]) ([]) ([])
 
 one_trail_prints : shown false (world_of (run one_trail 20000 ([]))).marks ≡ ([])
 unfolding one_trail computed
@@ -206,8 +206,8 @@ never_begun : Kernel
 unfolding block
 never_begun =
     kernel (block 0 ([]) (node 1 1 15 (k.Par par.Or 0 ((block 2 ([]) (node 3 1 25 (k.Out 0 (Some (const ty.S32 1 32 (pos 1)))) ∷ [])) ∷ (block 4 ([])
-        (node 5 1 41 (k.Out 0 (Some (const ty.S32 1 48 (pos 2)))) ∷ [])) ∷ [])) ∷ node 6 1 56 (k.Escape 0 (Some (const ty.S32 1 63 (pos 0)))) ∷ []))
-        ([]) ([]) ((port ty.S32 (codes "O")) ∷ []) ([])
+    (node 5 1 41 (k.Out 0 (Some (const ty.S32 1 48 (pos 2)))) ∷ [])) ∷ [])) ∷ node 6 1 56 (k.Escape 0 (Some (const ty.S32 1 63 (pos 0)))) ∷ []))
+    ([]) ([]) ((port ty.S32 (codes "O")) ∷ []) ([])
 
 never_begun_prints : shown false (world_of (run never_begun 20000 ([]))).marks ≡ (Output 0 (pos 1) ∷ [])
 unfolding never_begun computed
@@ -230,7 +230,7 @@ rejoins : Kernel
 unfolding block
 rejoins =
     kernel (block 0 ([]) (node 1 1 15 (k.Par par.And 0 ((block 2 ([]) (node 3 1 26 (k.AwaitIn 0 None) ∷ [])) ∷ (block 4 ([]) ([])) ∷ [])) ∷ node 5 1
-        44 (k.Escape 0 (Some (const ty.S32 1 51 (pos 4)))) ∷ [])) ([]) ((port ty.None (codes "A")) ∷ []) ([]) ([])
+    44 (k.Escape 0 (Some (const ty.S32 1 51 (pos 4)))) ∷ [])) ([]) ((port ty.None (codes "A")) ∷ []) ([]) ([])
 
 rejoins_prints : shown false (world_of (run rejoins 20000 (Input 0 (pos 0) ∷ []))).marks ≡ ([])
 unfolding rejoins computed
@@ -253,8 +253,8 @@ parts_of_if : Kernel
 unfolding block
 parts_of_if =
     kernel (block 0 ([]) (node 1 1 1 (k.If ((arm (const ty.Bool 1 4 (pos 1)) (block 2 ((declared 0 (kind.Var ty.S64)) ∷ []) (node 3 1 14 (k.Assign
-        (loc false 0 ty.S64) (const ty.S64 1 26 (pos 1))) ∷ []))) ∷ []) (block 4 ((declared 1 (kind.Var ty.S64)) ∷ []) (node 5 1 34 (k.Assign (loc
-        false 1 ty.S64) (const ty.S64 1 46 (pos 2))) ∷ []))) ∷ node 6 1 53 (k.Escape 0 (Some (const ty.S32 1 60 (pos 0)))) ∷ [])) ([]) ([]) ([]) ([])
+    (loc false 0 ty.S64) (const ty.S64 1 26 (pos 1))) ∷ []))) ∷ []) (block 4 ((declared 1 (kind.Var ty.S64)) ∷ []) (node 5 1 34 (k.Assign (loc
+    false 1 ty.S64) (const ty.S64 1 46 (pos 2))) ∷ []))) ∷ node 6 1 53 (k.Escape 0 (Some (const ty.S32 1 60 (pos 0)))) ∷ [])) ([]) ([]) ([]) ([])
 
 parts_of_if_prints : shown false (world_of (run parts_of_if 20000 ([]))).marks ≡ ([])
 unfolding parts_of_if computed
