@@ -4,3 +4,4 @@ pub mod Bytes
 pub mod Shelves
 pub mod Calls
 pub mod Memory
+pub mod Files

@@ -2,12 +2,16 @@
 #![tactic(auto)]
 
 mod calls;
+mod memory_shelf;
 mod memory_sink;
 mod memory_source;
 mod outside;
 mod shelves;
+#[cfg(test)]
+mod tests;
 mod whole;
 
+pub use memory_shelf::MemShelf;
 pub use memory_sink::MemSink;
 pub use memory_source::MemSource;
 pub use outside::{Failed, Sink, Source};

@@ -30,7 +30,12 @@ impl Model for MemSink {
 
 impl MemSink {
     /// Takes the memory for `room` bytes, so that no write needs any.
-    pub fn new(alloc: Global, room: usize, piece: usize, fails: Vec<u32>) -> Result<MemSink, AllocError>
+    pub fn new(
+        alloc: Global,
+        room: usize,
+        piece: usize,
+        fails: Vec<u32>,
+    ) -> Result<MemSink, AllocError>
         requires { 0 < piece }
         ensures { IfOk result (λ s. s ≡ record { bytes = []; room = room; piece = piece; calls = 0; faults = 0; fails = fails.items }) }
     {

@@ -1,9 +1,10 @@
 // Files by name.
 ghost use Rattle.std.specs.Prelude.{◌≡◌, List, ℕ, Option, IfOk};
 ghost use Rattle.ceu_io.specs.Shelves.{Fetches, IsWithin, HasShelfCause};
+ghost use Rattle.ceu_io.specs.declared.shelves.ShelfError.TheVariants.{Memory};
 ghost use Rattle.ceu_io.specs.Told.{WhereTold};
 
-use std::alloc::Global;
+use std::alloc::{AllocError, Global};
 
 /// What a shelf has under a name.
 #[derive(Drop)]
@@ -21,6 +22,14 @@ pub enum Fetched {
 pub enum ShelfError {
     Failed,
     Memory,
+}
+
+impl From<AllocError> for ShelfError {
+    ghost from_gives = { λ _ e. e ≡ Memory };
+
+    fn from(_: AllocError) -> Self {
+        ShelfError::Memory
+    }
 }
 
 /// Files by name.

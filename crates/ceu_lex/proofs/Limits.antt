@@ -4,7 +4,8 @@ use Rattle.std.specs.Prelude.{nat_lt, nat_eq}
 use Rattle.std.proofs.Math.Nat.{mul-le-mul_left}
 use Rattle.std.proofs.str.Laws.{order}
 use Rattle.std.proofs.lemmas.Bool.Decides.{nat_tests}
-use Rattle.ceu_lex.specs.Lexemes.{Groups, value, digit, capped, has_group, after_group, digits_len, after_groups, of_groups, Text}
+use Rattle.ceu_lex.specs.Lexemes.{Groups, value, digit, capped, has_group, after_group, digits_len, after_groups, of_groups}
+use Rattle.ceu_lex.specs.Tables.{Text}
 use Rattle.std.specs.Prelude.{Result}
 use Rattle.ceu_base.specs.declared.kinds.Rule.{Rule}
 use Rattle.ceu_lex.specs.declared.token.TokenKind.{TokenKind}
@@ -21,7 +22,7 @@ capped-large n large = let e : nat_lt n 9223372036854775808 ≡ false = grind (a
 both_large : (m n : ℕ) → 9223372036854775808 ≤ m → 9223372036854775808 ≤ n → capped m ≡ capped n
 both_large m n p q = capped-large m p ∙ sym (capped-large n q)
 
--- digits behind what is at the limit stay there
+-- digits after what is at the limit stay there
 pub value-capped : (x : ℕ) (bytes : List ℕ) → capped (value 10 (capped x) bytes) ≡ capped (value 10 x bytes)
 value-capped x bytes = elim (order x 9223372036854775808) [
   | inl small ↦ ap (λ (n : ℕ). capped (value 10 n bytes)) (capped-small x small)
@@ -83,7 +84,7 @@ capped_le m n is = elim (order n 9223372036854775808) [
   | inr large ↦ omega (arith, is, capped-large n large)
 ]
 
--- behind the last unit
+-- after the last unit
 pub no_units : {A : Type 0} (f : A → Text × ℕ) (units : List A) (g h : Groups) → length units < 1 → after_groups (map f units) g ≡ h → h ≡ g
 no_units f [] g h none is = sym is
 no_units f (u ∷ units) g h none is = absurd (omega arith)

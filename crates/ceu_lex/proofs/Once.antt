@@ -3,6 +3,7 @@ use Rattle.std.proofs.Common.{◌≡◌, ◌⊎◌, inl, inr, ℕ, List, [], ◌
 use Rattle.std.proofs.lemmas.List.{drop_all}
 use Rattle.ceu_lex.specs.Gaps.{gap}
 use Rattle.ceu_lex.specs.Positions.{position_of}
+use Rattle.ceu_lex.specs.Tables.{symbols}
 use Rattle.ceu_lex.specs.Lexemes.{lexeme, symbol}
 use Rattle.ceu_lex.specs.Texts.{IsNext, ReadsTo, Reads, BreaksAt, Breaks}
 use Rattle.ceu_base.specs.declared.kinds.Pos.{Pos}
@@ -36,7 +37,7 @@ abbrev Stuck : List ℕ → ℕ → Type 0
 Stuck text at = (t : Token) → IsNext text at t → ⊥
 
 no_token : lexeme [] ≡ Err L1
-unfolding lexeme symbol
+unfolding lexeme symbol symbols
 no_token = refl
 
 stuck_end : (text : List ℕ) (at : ℕ) → gap at (drop at text) ≡ Ok (length text) → Stuck text at

@@ -4,7 +4,7 @@ use Rattle.ceu_lex.specs.Bytes.{is_blank}
 use Rattle.ceu_lex.specs.declared.gaps.Part.{Part}
 use Rattle.ceu_lex.specs.declared.gaps.Part.TheVariants.{Plain, LineComment, Opening, BlockComment, Closing}
 
--- What the byte behind a byte is part of, where the gap goes on with it; by the byte that follows it.
+-- What the next byte is part of, where the gap goes on with this byte; `following` is that next byte.
 -- `Opening` is the `*` of a `/*`, `Closing` the `/` of a `*/`.
 abbrev pub next_part : Part → (byte following : ℕ) → Option Part
 next_part Plain b c = if is_blank b then Some Plain

@@ -1,5 +1,5 @@
--- The longest token at the front of a text, or the rule that it breaks.
-use Rattle.std.specs.Prelude.{ℕ, ◌+◌, ◌-◌, ◌*◌, Bool, ◌&&◌, ◌||◌, List, [], ◌∷◌, length, take, drop, map, if◌then◌else◌, ◌==◌, nat_eq, nat_lt, slice_index, Option, Some, None, Result, Ok, Err}
+-- The longest token at the front of a text, or the rule that it breaks. The forms of words, numbers and times are this project's own.
+use Rattle.std.specs.Prelude.{ℕ, ◌+◌, ◌-◌, ◌*◌, Bool, ◌&&◌, ◌||◌, List, [], ◌∷◌, length, take, drop, if◌then◌else◌, ◌==◌, nat_eq, nat_lt, slice_index, Option, Some, None, Result, Ok, Err}
 use Rattle.std.specs.List.{prefix_len, list_any, list_all, starts_with}
 use Rattle.std.specs.Str.{bytes_eq}
 use Rattle.std.specs.Char.{is_ascii_digit, is_ascii_hexdigit, is_ascii_lowercase, is_ascii_uppercase, is_ascii_alphabetic}
@@ -10,10 +10,7 @@ use Rattle.ceu_base.specs.declared.kinds.Rule.{Rule}
 use Rattle.ceu_base.specs.declared.kinds.Rule.TheVariants.{L1, L3, L4, L5}
 use Rattle.ceu_lex.specs.declared.token.TokenKind.{TokenKind}
 use Rattle.ceu_lex.specs.declared.token.TokenKind.TheVariants.{Reserved, Lower, Ext, Abs, Under, Number, Time, Symbol}
-use Rattle.ceu_lex.specs.declared.token.TheConstants.{RESERVED, SYMBOLS, UNITS}
-
-abbrev pub Text : Type 0
-Text = List ℕ
+use Rattle.ceu_lex.specs.Tables.{Text, reserved_words, symbols, units}
 
 -- a kind and a length in bytes, or a broken rule
 abbrev pub Lexeme : Type 0
@@ -27,7 +24,7 @@ word_in (entry ∷ table) text = if bytes_eq entry.0 text then Some entry.1 else
 
 -- the reserved word that a text is
 unfoldable pub reserved : Text → Option Word
-reserved = word_in (map (λ e. (e.0.now, e.1)) RESERVED)
+reserved = word_in reserved_words
 
 -- a name by its letters
 abbrev pub name_kind : Text → TokenKind
@@ -53,7 +50,7 @@ underscore bytes = if word_len bytes == 1 then Ok (Under, 1) else Err L1
 abbrev pub digit : ℕ → ℕ
 digit b = if is_ascii_digit b then b - 48 else (if is_ascii_lowercase b then b - 87 else b - 55)
 
--- what digits stand for behind digits that stand for `high`
+-- what digits stand for, after digits that stand for `high`
 unfoldable pub value : (base high : ℕ) → Text → ℕ
 value base high [] = high
 value base high (b ∷ text) = value base (high * base + digit b) text
@@ -82,7 +79,7 @@ pub record Groups : Type 0 where
   pub total : ℕ
   pub rest : Text
 
--- the letters behind some digits
+-- the letters after some digits
 abbrev pub letters_after : ℕ → Text → Text
 letters_after digits text = take (prefix_len (λ b. is_ascii_alphabetic b) (drop digits text)) (drop digits text)
 
@@ -101,13 +98,13 @@ after_group unit g = if has_group unit.0 g.rest
 -- a group of each unit of a table, in its order, where it comes
 abbrev pub after_groups : List (Text × ℕ) → Groups → Groups
 after_groups [] g = g
-after_groups (unit ∷ units) g = after_groups units (after_group unit g)
+after_groups (unit ∷ table) g = after_groups table (after_group unit g)
 
 abbrev pub of_groups : Groups → Result TokenKind Rule
 of_groups g = if nat_eq (length g.rest) 0 && nat_lt g.total time_limit then Ok (Time g.total) else Err L4
 
 unfoldable pub time : Text → Result TokenKind Rule
-time text = of_groups (after_groups (map (λ u. (u.0.now, u.1)) UNITS) (record { total = 0; rest = text }))
+time text = of_groups (after_groups units (record { total = 0; rest = text }))
 
 -- a run of letters, digits and `_` that begins with a digit
 unfoldable pub literal : Text → Result TokenKind Rule
@@ -132,7 +129,7 @@ symbol_in (entry ∷ table) bytes = if starts_with nat_eq bytes entry.0 then Ok 
 
 -- the longest one, since the longer ones come first
 unfoldable pub symbol : Text → Lexeme
-symbol = symbol_in (map (λ e. (e.0.now, e.1)) SYMBOLS)
+symbol = symbol_in symbols
 
 -- ---- any token
 

@@ -1,5 +1,6 @@
 pub mod Bytes
 pub mod Gaps
 pub mod Positions
+pub mod Tables
 pub mod Lexemes
 pub mod Texts

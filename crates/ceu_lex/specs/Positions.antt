@@ -1,11 +1,11 @@
--- Positions: the newlines before a place and the bytes since the last one, both from 1.
+-- Positions: the newlines before a place and the bytes since the last one, both counted from 1.
 use Rattle.std.specs.Prelude.{ℕ, ◌+◌, List, [], ◌∷◌, if◌then◌else◌, ◌==◌, take}
 use Rattle.ceu_base.specs.declared.kinds.Pos.{Pos}
 
 abbrev pub first_pos : Pos
 first_pos = record { line = 1; col = 1 }
 
--- the place behind a byte
+-- the position after a byte
 abbrev pub next_pos : Pos → ℕ → Pos
 next_pos p b = if b == 10 then record { line = p.line + 1; col = 1 } else record { line = p.line; col = p.col + 1 }
 

@@ -43,7 +43,7 @@ fn next_part(part: Part, byte: u8, following: u8) -> Option<Part>
     }
 }
 
-/// The place behind the gap that begins at `from`, where the text goes on with `bytes`; or that of a `/*` that has no `*/`.
+/// The place after the gap that begins at `from`, where the text goes on with `bytes`; or that of a `/*` that has no `*/`.
 #[tactic(auto, unfolding(crate::specs::Gaps::gap, crate::specs::Gaps::gap_from))]
 pub fn past_gap(from: usize, mut bytes: &[u8]) -> Result<usize, usize>
     requires { from + length bytes.now < 2 ^ 63 }

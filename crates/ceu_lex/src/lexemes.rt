@@ -40,7 +40,7 @@ fn word_in(mut table: &[(&[u8], Word)], text: &[u8]) -> Option<Word>
     None
 }
 
-#[tactic(auto, unfolding(crate::specs::Lexemes::reserved))]
+#[tactic(auto, unfolding(crate::specs::Lexemes::reserved, crate::specs::Tables::reserved_words))]
 fn reserved(text: &[u8]) -> Option<Word>
     ensures { result ≡ spec.reserved text.now }
 {
@@ -110,7 +110,7 @@ fn symbol_in(mut table: &[(&[u8], Sym)], bytes: &[u8]) -> Result<(TokenKind, usi
     Err(Rule::L1)
 }
 
-#[tactic(auto, unfolding(crate::specs::Lexemes::symbol))]
+#[tactic(auto, unfolding(crate::specs::Lexemes::symbol, crate::specs::Tables::symbols))]
 fn symbol(bytes: &[u8]) -> Result<(TokenKind, usize), Rule>
     requires { 0 < length bytes.now }
     ensures value { result ≡ spec.symbol bytes.now }

@@ -58,12 +58,12 @@ fn has_group(unit: &[u8], bytes: &[u8]) -> bool
     ensures within { result ≡ true → spec.digits_len bytes.now + length unit.now ≤ length bytes.now }
 {
     let digits = digits_len(bytes);
-    let behind = &bytes[digits..];
-    let letters = &behind[..letters_len(behind)];
+    let after = &bytes[digits..];
+    let letters = &after[..letters_len(after)];
     digits > 0 && letters == unit
 }
 
-// The microseconds behind a group of this unit, where one comes, and what follows it.
+// The microseconds after a group of this unit, where one comes, and what follows it.
 fn after_group<'a>(unit: &[u8], micros: u64, total: u64, bytes: &'a [u8]) -> (u64, &'a [u8])
     requires { 1 ≤ micros }
     ensures total { (exact : ℕ) → total ≡ spec.capped exact → result.0 ≡ spec.capped (spec.after_group (unit.now, micros) (record { total = exact; rest = bytes.now })).total }

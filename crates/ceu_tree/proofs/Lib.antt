@@ -1,4 +1,6 @@
 pub mod Sizes
+pub mod CutLaws
+pub mod TableLaws
 pub mod Depths
 pub mod NeedLaws
 pub mod GateLaws

@@ -15,3 +15,5 @@ pub mod Around
 pub mod Step
 pub mod Run
 pub mod Text
+pub mod Cut
+pub mod Marks

@@ -119,9 +119,14 @@ slots plain K = let frames = frames_from plain [] K.codes in max (block_need pla
 
 -- ---- gates
 
+abbrev pub pool_gates : List ℕ → KKind → ℕ
+pool_gates gates (kind.Var t) = 0
+pool_gates gates (kind.Alias c) = 0
+pool_gates gates (kind.Pool n c) = n * entry c gates
+
 abbrev pub pools_gates : List ℕ → List KDecl → ℕ
 pools_gates gates [] = 0
-pools_gates gates (d ∷ ds) = elim d.kind [ kind.Var t ↦ pools_gates gates ds | kind.Alias c ↦ pools_gates gates ds | kind.Pool n c ↦ n * entry c gates + pools_gates gates ds ]
+pools_gates gates (d ∷ ds) = pool_gates gates d.kind + pools_gates gates ds
 
 abbrev pub finalizers : KStmt → ℕ
 finalizers (Finalize b) = 1

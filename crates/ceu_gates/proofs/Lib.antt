@@ -1,0 +1,2 @@
+pub mod GateSums
+pub mod GateCuts

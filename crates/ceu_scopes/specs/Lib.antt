@@ -1,0 +1,5 @@
+pub mod Entries
+pub mod Shown
+pub mod Walk
+pub mod Rules
+pub mod Names
