@@ -1,22 +1,21 @@
 -- Programs whose runs and numbers are computed: an emitter that is aborted from above, instances by age, a finalizer that faults.
-use Rattle.std.proofs.Common.{◌≡◌, refl, ℕ, ℤ, pos, negsuc, true, false, List, [], ◌∷◌, ◌++◌, Some, None, codes}
+use Rattle.std.proofs.Common.{◌≡◌, refl, pos, negsuc, false, [], ◌∷◌, Some, None, codes}
 use Rattle.ceu_base.specs.declared.kinds.Ty.TheVariants as ty
 use Rattle.ceu_base.specs.declared.kinds.Op1.TheVariants as op1
 use Rattle.ceu_base.specs.declared.kinds.Op2.TheVariants as op2
-use Rattle.ceu_tree.specs.declared.command.Command.TheVariants.{Input, Advance, Idle}
+use Rattle.ceu_tree.specs.declared.command.Command.TheVariants.{Input}
 use Rattle.ceu_tree.specs.declared.kernel.Kernel.{Kernel}
 use Rattle.ceu_tree.specs.declared.kernel.ParKind.TheVariants as par
-use Rattle.ceu_tree.specs.declared.kernel.Unit.TheVariants as unit
 use Rattle.ceu_tree.specs.declared.kernel.KKind.TheVariants as kind
 use Rattle.ceu_tree.specs.declared.kernel.KLoop.TheVariants as turns
 use Rattle.ceu_tree.specs.declared.kernel.KStmt as k
-use Rattle.ceu_base.specs.declared.kinds.Mark.TheVariants.{Output, Resume, Push, Pop, Registered, Ran, Spawned, Full}
-use Rattle.ceu_base.specs.declared.kinds.Fault.TheVariants.{Overflow, DivZero, Shift, LoopLimit, SpawnCount}
+use Rattle.ceu_base.specs.declared.kinds.Mark.TheVariants.{Output}
+use Rattle.ceu_base.specs.declared.kinds.Fault.TheVariants.{DivZero}
 use Rattle.ceu_tree.specs.Text.{shown}
 use Rattle.ceu_tree.specs.Needs.{memory}
 use Rattle.ceu_tree.specs.Costs.{cost, bounds}
-use Rattle.ceu_tree.specs.Run.{Waits, HasEnded, HasFaulted, world_of, status_of, run}
-use Rattle.ceu_tree.proofs.Build.{at, node, const, read, alive, one, two, cast, loc, arm, declared, block, port, event, coded, kernel, computed, measured}
+use Rattle.ceu_tree.specs.Run.{HasEnded, HasFaulted, world_of, status_of, run}
+use Rattle.ceu_tree.proofs.Build.{at, node, const, read, one, two, loc, declared, block, port, event, coded, kernel, computed, measured}
 
 -- output int O;
 -- event none e, f;

@@ -1,5 +1,5 @@
 -- What the parts around a leaf do with what it comes to: one frame after the other, from the inside outward.
-use Rattle.std.specs.Prelude.{ℕ, ℤ, pos, ◌+◌, ◌+ℤ◌, int_lt, Bool, true, false, ◌&&◌, if◌then◌else◌, ◌==◌, List, [], ◌∷◌, Option, Some, None}
+use Rattle.std.specs.Prelude.{ℕ, ℤ, pos, ◌+◌, ◌+ℤ◌, int_lt, Bool, true, false, ◌&&◌, if◌then◌else◌, ◌==◌, List, ◌∷◌}
 use Rattle.ceu_base.specs.declared.kinds.Pos.{Pos}
 use Rattle.ceu_base.specs.declared.kinds.Fault.{Fault}
 use Rattle.ceu_base.specs.declared.kinds.Fault.TheVariants.{LoopLimit}
@@ -12,11 +12,11 @@ use Rattle.ceu_tree.specs.declared.kernel.KNode.{KNode}
 use Rattle.ceu_tree.specs.declared.kernel.KBlock.{KBlock, out-KBlock}
 use Rattle.ceu_tree.specs.declared.kernel.KStmt.{out-KStmt}
 use Rattle.ceu_tree.specs.declared.kernel.KStmt.TheOpen.{KStmt-F}
-use Rattle.ceu_tree.specs.Residual.{Body, Act, Begin, AtEnd, Again, Counter, Free, Turns, Upward, Residual, Over, Block, Open, Loop, Call, Par, Branches, no_branch, branch, Instances}
+use Rattle.ceu_tree.specs.Residual.{Body, Act, Begin, Again, Counter, Turns, Upward, Residual, Over, Block, Par, Branches, no_branch, branch, Instances}
 use Rattle.ceu_tree.specs.Focus.{Frame, OfBlock, OfInstance, OfOpen, OfLoop, OfCall, OfPar, Focus, Here, In, join, join_instances, fill, plug, body_in}
 use Rattle.ceu_tree.specs.World.{World, Holds, marked, set, assign_if, dead}
 use Rattle.ceu_tree.specs.Abort.{aborted, closed, forget_loop, returned}
-use Rattle.ceu_tree.specs.Leaf.{Layer, Exit, Escape, Break, Continue, target, next_of, rest_of}
+use Rattle.ceu_tree.specs.Leaf.{Layer, Exit, Escape, Continue, target, next_of, rest_of}
 
 -- what a trail comes to inside a part
 pub data Outcome : Type 0 where

@@ -1,7 +1,6 @@
 -- Reactions, commands and runs (Céu 0.30 manual, chapter on the execution model; TECS 2017: a program is a sequence of reactions, each to one
 -- occurrence; levels, marks, rounds of asyncs and idle turns are this project's own).
 use Rattle.std.specs.Prelude.{◌≡◌, ℕ, zero, suc, ◌+◌, ◌-◌, ℤ, pos, Bool, true, false, if◌then◌else◌, nat_le, List, [], ◌∷◌, Option, Some, None}
-use Rattle.std.specs.List.{list_any}
 use Rattle.ceu_base.specs.declared.kinds.Pos.{Pos}
 use Rattle.ceu_base.specs.declared.kinds.Fault.{Fault}
 use Rattle.ceu_base.specs.declared.kinds.Mark.{Mark}
@@ -9,12 +8,11 @@ use Rattle.ceu_base.specs.declared.kinds.Mark.TheVariants as mark
 use Rattle.ceu_tree.specs.declared.command.Command.{Command}
 use Rattle.ceu_tree.specs.declared.command.Command.TheVariants.{Input, Advance, Idle}
 use Rattle.ceu_tree.specs.declared.kernel.Kernel.{Kernel}
-use Rattle.ceu_tree.specs.declared.kernel.KNode.{KNode}
 use Rattle.ceu_tree.specs.Residual.{Body, Program, Act, Begin, Finish, Again, Residual, Over, Run, InAsync}
 use Rattle.ceu_tree.specs.Focus.{Focus, plug, leaf, body_of, choose}
 use Rattle.ceu_tree.specs.World.{World, empty_world, marked}
 use Rattle.ceu_tree.specs.Abort.{aborted}
-use Rattle.ceu_tree.specs.Wake.{each_leaf, leaves, runs_at, by_input, later, by_time, least_time, is_async, Unserved, unserved, new_round}
+use Rattle.ceu_tree.specs.Wake.{each_leaf, leaves, runs_at, by_input, later, by_time, least_time, Unserved, unserved, new_round}
 use Rattle.ceu_tree.specs.Around.{Outcome, Goes, Rests, Raises, Fails, Ends}
 use Rattle.ceu_tree.specs.Step.{stepped}
 

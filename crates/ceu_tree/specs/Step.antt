@@ -1,5 +1,5 @@
 -- One step of a turn, in the whole focus: the leaf acts, and the parts around it answer. Emissions, spawns and kills reach beyond the leaf's own part.
-use Rattle.std.specs.Prelude.{ℕ, zero, suc, ◌+◌, ℤ, pos, nat_lt, Bool, true, false, if◌then◌else◌, ◌==◌, ◌&&◌, List, [], ◌∷◌, ◌++◌, length, Option, Some, None}
+use Rattle.std.specs.Prelude.{ℕ, zero, suc, ◌+◌, ℤ, pos, nat_lt, if◌then◌else◌, ◌==◌, List, [], ◌∷◌, Option, Some, None}
 use Rattle.ceu_base.specs.declared.kinds.Fault.TheVariants.{SpawnCount}
 use Rattle.ceu_base.specs.declared.kinds.Mark.TheVariants as mark
 use Rattle.ceu_tree.specs.declared.kernel.Kernel.{Kernel}
@@ -9,15 +9,15 @@ use Rattle.ceu_tree.specs.declared.kernel.KDecl.{KDecl}
 use Rattle.ceu_tree.specs.declared.kernel.KKind.{KKind}
 use Rattle.ceu_tree.specs.declared.kernel.KKind.TheVariants as kind
 use Rattle.ceu_tree.specs.declared.kernel.KNode.{KNode}
-use Rattle.ceu_tree.specs.declared.kernel.KBlock.{KBlock, out-KBlock}
-use Rattle.ceu_tree.specs.Residual.{Body, Spawned, Act, Begin, Finish, Seat, Residual, Over, Run, Instances, no_instance, instance}
-use Rattle.ceu_tree.specs.Focus.{Frame, OfBlock, Focus, Here, In, plug, graft, leaf, body_in, body_of}
+use Rattle.ceu_tree.specs.declared.kernel.KBlock.{out-KBlock}
+use Rattle.ceu_tree.specs.Residual.{Body, Spawned, Act, Begin, Finish, Seat, Residual, Run, Instances, no_instance, instance}
+use Rattle.ceu_tree.specs.Focus.{Frame, OfBlock, Focus, Here, In, plug, graft, leaf, body_of}
 use Rattle.ceu_tree.specs.World.{NotSet, Names, World, marked, set_alias, set_parameters, is_among, dead}
 use Rattle.ceu_tree.specs.Abort.{aborted}
 use Rattle.ceu_tree.specs.Wake.{by_event, woken}
 use Rattle.ceu_tree.specs.Leaf as does
 use Rattle.ceu_tree.specs.Leaf.{Does, acted}
-use Rattle.ceu_tree.specs.Around.{Outcome, Rests, Raises, Goes, Fails, Past, Registers, AtBlockEnd, AtLoopHead, Leaves, Moved, moved, up}
+use Rattle.ceu_tree.specs.Around.{Rests, Raises, Goes, Fails, Past, Registers, AtBlockEnd, AtLoopHead, Leaves, Moved, moved, up}
 
 -- ---- events
 
