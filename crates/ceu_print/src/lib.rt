@@ -1,0 +1,5 @@
+//! Prints a program's source tree.
+#![tactic(auto)]
+
+mod pieces;
+mod words;
