@@ -37,7 +37,7 @@ unfoldable mutual
   operand_text at end_of-Exp = []
   operand_text at (more_of-Exp p e rest) = enclosed (nat_lt (tightness e) at) (node_text e)
 
-abbrev pub exp_text_at : ℕ → Exp → Text
+unfoldable pub exp_text_at : ℕ → Exp → Text
 exp_text_at at e = enclosed (nat_lt (tightness e.node) at) (node_text e.node)
 
 abbrev pub exp_text : Exp → Text
@@ -60,7 +60,10 @@ abbrev pub until_text : Option Exp → Text
 until_text None = []
 until_text (Some e) = codes " until " ++ exp_text e
 
+abbrev pub awaited_text : Await → Text
+awaited_text await.Forever = codes "FOREVER"
+awaited_text (await.Code c) = call_text c
+awaited_text (await.On t e) = target_text t ++ until_text e
+
 abbrev pub await_text : Await → Text
-await_text await.Forever = codes "await FOREVER"
-await_text (await.Code c) = codes "await " ++ call_text c
-await_text (await.On t e) = codes "await " ++ target_text t ++ until_text e
+await_text a = codes "await " ++ awaited_text a
