@@ -3,3 +3,4 @@ pub mod Shown
 pub mod Walk
 pub mod Rules
 pub mod Names
+pub mod Answers

@@ -44,9 +44,9 @@ use Rattle.ceu_scopes.specs.declared.scope.Border.{Border}
 use Rattle.ceu_scopes.specs.declared.scope.Border.TheVariants.{Plain, Async, Body}
 use Rattle.ceu_scopes.specs.declared.scope.Scope.{Scope}
 use Rattle.ceu_scopes.specs.declared.walk.Walk.{Walk}
-use Rattle.ceu_scopes.specs.Shown.{added}
+use Rattle.ceu_scopes.specs.Shown.{added, rest_of}
 use Rattle.ceu_scopes.specs.Walk.{Broken, Step, ◌>>=◌, opened, closed, shown, fresh}
-use Rattle.ceu_scopes.specs.Rules.{checked, used, named, nothing_besides, and_on, pool_broken, set_broken, inside_broken, declared, label_broken}
+use Rattle.ceu_scopes.specs.Rules.{checked, used, named, pool_used, alias_used, set_broken, inside_broken, declared, label_broken}
 
 -- ---- expressions
 
@@ -82,10 +82,10 @@ call_walked c w = named role.Code c.code w >>= exps_walked c.args
 
 -- the arguments of a spawn and its pool, which holds the code that is spawned
 abbrev pub spawned : Spawn → Known × Walk → Step
-spawned s (code, w) = exps_walked s.call.args w >>= used role.Pool (pool_broken code.number) s.pool >>= and_on
+spawned s (code, w) = exps_walked s.call.args w >>= pool_used code.number s.pool
 
 abbrev pub spawn_walked : Spawn → Walk → Step
-spawn_walked s w = used role.Code nothing_besides s.call.code w >>= spawned s
+spawn_walked s w = used role.Code s.call.code w >>= spawned s
 
 abbrev pub if_spawn_walked : Option Spawn → Walk → Step
 if_spawn_walked None w = Ok w
@@ -150,10 +150,6 @@ abbrev pub labelled : Label → Walk → Walk
 labelled (label.Named l) w = record w { labels = l.name ∷ w.labels }
 labelled _ w = w
 
-abbrev pub rest_of : List (List ℕ) → List (List ℕ)
-rest_of [] = []
-rest_of (l ∷ outside) = outside
-
 abbrev pub unlabelled : Label → Walk → Step
 unlabelled (label.Named l) w = Ok (record w { labels = rest_of w.labels })
 unlabelled _ w = Ok w
@@ -167,7 +163,7 @@ list_with ns (k, w) = Ok (added ns k.number, w)
 
 abbrev pub list_walked : List Ident → List ℕ × Walk → Result (List ℕ × Walk) Broken
 list_walked [] p = Ok p
-list_walked (x ∷ xs) (ns, w) = used role.Listed nothing_besides x w >>= list_with ns >>= list_walked xs
+list_walked (x ∷ xs) (ns, w) = used role.Listed x w >>= list_with ns >>= list_walked xs
 
 -- ---- statements
 
@@ -177,11 +173,11 @@ unfoldable mutual
   stmt_walked stmt.Break w = Ok w
   stmt_walked stmt.Continue w = Ok w
   stmt_walked (Vars' t _ items) w = items_walked items t w
-  stmt_walked (stmt.AliasDecl code x start) w = used role.Code nothing_besides code w >>= alias_declared x start
+  stmt_walked (stmt.AliasDecl code x start) w = used role.Code code w >>= alias_declared x start
   stmt_walked (stmt.Events t xs) w = events_declared t xs w
   stmt_walked (stmt.Inputs t xs) w = ports_declared class.Input t xs w
   stmt_walked (stmt.Outputs t xs) w = ports_declared class.Output t xs w
-  stmt_walked (stmt.Pool n code x) w = used role.Code nothing_besides code w >>= pool_declared x
+  stmt_walked (stmt.Pool n code x) w = used role.Code code w >>= pool_declared x
   stmt_walked (stmt.Code x ps t b) w =
       declared class.Code t (inside_broken w.scopes) x w >>= params_opened x.name ps >>= block_walked b Plain >>= closed
       >>= shown x (fresh class.Code 0 w)
@@ -213,7 +209,7 @@ unfoldable mutual
   pub assign_walked : Source → Ident → Walk → Step
   assign_walked (source.Value e) x w = named role.Written x w >>= exp_walked e
   assign_walked (source.Wait a) x w = named role.Written x w >>= await_walked a
-  assign_walked (source.Start s) x w = used role.Alias (set_broken w.scopes s) x w >>= and_on >>= spawn_walked s
+  assign_walked (source.Start s) x w = alias_used s x w >>= spawn_walked s
   assign_walked (source.Done d) x w = named role.Written x w >>= do_walked d
 
   pub value_walked : Held-Item-value → Walk → Step

@@ -3,6 +3,7 @@
 
 mod known;
 mod names;
+mod rules;
 mod scope;
 mod stack;
 mod walk;
