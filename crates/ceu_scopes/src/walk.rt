@@ -114,4 +114,52 @@ impl Walk {
         self.used(role, name)?;
         Ok(())
     }
+
+    /// The pool that a spawn of this code takes a place in.
+    #[tactic(auto, using(crate::proofs::Laws::steps), unfolding(crate::specs::Rules::pool_used))]
+    pub fn pool_used(&mut self, code: u32, name: &Ident) -> Result<(), CheckError>
+        ensures { Walks result self.new (rules.pool_used code name.now self.old) }
+    {
+        let pool = resolved(Role::Pool, self.scopes.outermost_first(), name)?;
+        if pool.code != code {
+            return Err(CheckError::Refused(Rule::N3, name.pos));
+        }
+        self.note(pool)
+    }
+
+    /// The alias that a spawn sets.
+    #[tactic(auto, using(crate::proofs::Laws::steps), unfolding(crate::specs::Rules::alias_used))]
+    pub fn alias_used(&mut self, spawn: &Spawn, name: &Ident) -> Result<(), CheckError>
+        ensures { Walks result self.new (rules.alias_used spawn.now name.now self.old) }
+    {
+        let scopes = self.scopes.outermost_first();
+        let alias = resolved(Role::Alias, scopes, name)?;
+        if let Some(rule) = set_broken(scopes, spawn, alias) {
+            return Err(CheckError::Refused(rule, name.pos));
+        }
+        self.note(alias)
+    }
+
+    /// A declaration, with one more rule to ask at its name.
+    #[tactic(auto, using(crate::proofs::Laws::steps), unfolding(crate::specs::Rules::declared))]
+    pub fn declare(&mut self, alloc: Global, class: Class, ty: Ty, besides: Option<Rule>, name: &Ident) -> Result<(), CheckError>
+        ensures { Walks result self.new (rules.declared class ty besides name.now self.old) }
+    {
+        let scopes = self.scopes.outermost_first();
+        if is_taken(scopes, name.name.text()) {
+            return Err(CheckError::Refused(Rule::N2, name.pos));
+        }
+        if let Some(rule) = besides {
+            return Err(CheckError::Refused(rule, name.pos));
+        }
+        let block = block_of(scopes);
+        let copy = in_memory(Name::new(alloc, name.name.text()))?;
+        in_memory(self.decls.push(Decl {
+            class,
+            ty,
+            pos: name.pos,
+            block,
+            name: copy,
+        }))
+    }
 }
