@@ -1,6 +1,8 @@
 //! Which declaration each name of a program has, and the first rule on names that the program breaks.
 #![tactic(auto)]
 
+mod declarations;
+mod expressions;
 mod known;
 mod names;
 mod rules;

@@ -24,7 +24,7 @@ pub struct Walk {
     pub uses: Seq<u32>,
 }
 
-fn in_memory<T>(answer: Result<T, AllocError>) -> Result<T, CheckError>
+pub fn in_memory<T>(answer: Result<T, AllocError>) -> Result<T, CheckError>
 where
     T: Drop,
     ensures ok { IfOk result (λ x. answer ≡ Ok x) }
