@@ -4,3 +4,4 @@ pub mod Laws
 pub mod Each
 pub mod ExpLaws
 pub mod StmtLaws
+pub mod Sizes

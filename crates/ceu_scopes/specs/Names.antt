@@ -172,6 +172,12 @@ abbrev pub target_assigned : Source → Ident → Walk → Step
 target_assigned (source.Start s) x w = alias_used s x w
 target_assigned _ x w = named role.Written x w
 
+abbrev pub emit_walked : Ident → Option Exp → Walk → Step
+emit_walked x e w = named role.Emitted x w >>= if_exp_walked e
+
+abbrev pub leave_walked : Option Ident → Option Exp → Walk → Step
+leave_walked l e w = escape_walked l w >>= if_exp_walked e
+
 -- the head of code: its name, and the block of its parameters
 abbrev pub code_opened : Ident → List Param → Ty → Walk → Step
 code_opened x ps t w = declared class.Code t (inside_broken w.scopes) x w >>= params_opened x.name ps
@@ -196,11 +202,11 @@ unfoldable mutual
   stmt_walked (stmt.Code x ps t b) w =
       code_opened x ps t w >>= block_walked b Plain >>= closed >>= shown x (fresh class.Code 0 w)
   stmt_walked (stmt.Assign x s) w = target_assigned s x w >>= source_walked s
-  stmt_walked (stmt.Emit x e) w = named role.Emitted x w >>= if_exp_walked e
+  stmt_walked (stmt.Emit x e) w = emit_walked x e w
   stmt_walked (stmt.Await a) w = await_walked a w
   stmt_walked (stmt.Spawn s) w = spawn_walked s w
   stmt_walked (stmt.Kill x) w = named role.Alias x w
-  stmt_walked (stmt.Escape l e) w = escape_walked l w >>= if_exp_walked e
+  stmt_walked (stmt.Escape l e) w = leave_walked l e w
   stmt_walked (stmt.Do d) w = do_walked d w
   stmt_walked (stmt.Finalize b) w = block_walked b Plain w
   stmt_walked (If' _ arms last) w = arms_walked arms w >>= last_walked last
@@ -254,6 +260,10 @@ unfoldable mutual
   pub nodes_walked : {n : _} → Row_of-Node n → Walk → Step
   nodes_walked end_of-Node w = Ok w
   nodes_walked (more_of-Node p s rest) w = stmt_walked s w >>= nodes_walked rest
+
+-- the body of an async, behind its list
+abbrev pub async_walked : Block → List ℕ × Walk → Step
+async_walked b (ns, w) = block_walked b (Async ns) w
 
 -- ---- programs
 

@@ -36,7 +36,14 @@ fn is_label(labels: &[Name], name: &str) -> bool
 #[tactic(auto, using(crate::proofs::Laws::steps))]
 impl Walk {
     /// A name that is shown as soon as it is declared.
-    fn ident(&mut self, alloc: Global, class: Class, ty: Ty, besides: Option<Rule>, name: &Ident) -> Result<(), CheckError>
+    fn ident(
+        &mut self,
+        alloc: Global,
+        class: Class,
+        ty: Ty,
+        besides: Option<Rule>,
+        name: &Ident,
+    ) -> Result<(), CheckError>
         ensures { Walks result self.new (spec.ident_declared class ty besides name.now self.old) }
     {
         let known = self.fresh(class, 0)?;
@@ -54,7 +61,13 @@ impl Walk {
     }
 
     /// Inputs or outputs.
-    pub fn ports(&mut self, alloc: Global, class: Class, ty: Ty, names: &[Ident]) -> Result<(), CheckError>
+    pub fn ports(
+        &mut self,
+        alloc: Global,
+        class: Class,
+        ty: Ty,
+        names: &[Ident],
+    ) -> Result<(), CheckError>
         ensures { Walks result self.new (each (spec.port_declared class ty) names.now self.old) }
     {
         for name in names {
@@ -95,7 +108,13 @@ impl Walk {
     }
 
     /// The head of code: its name, and the block of its parameters. Answers the declaration.
-    pub fn code_head(&mut self, alloc: Global, name: &Ident, params: &[Param], ty: Ty) -> Result<Known, CheckError>
+    pub fn code_head(
+        &mut self,
+        alloc: Global,
+        name: &Ident,
+        params: &[Param],
+        ty: Ty,
+    ) -> Result<Known, CheckError>
         ensures walked { Walks result self.new (spec.code_opened name.now params.now ty self.old) }
         ensures known { IfOk result (λ known. known ≡ fresh Code 0 self.old) }
     {
@@ -123,7 +142,13 @@ impl Walk {
         self.show(alloc, name, known)
     }
 
-    pub fn alias(&mut self, alloc: Global, code: &Ident, name: &Ident, start: &Option<Spawn>) -> Result<(), CheckError>
+    pub fn alias(
+        &mut self,
+        alloc: Global,
+        code: &Ident,
+        name: &Ident,
+        start: &Option<Spawn>,
+    ) -> Result<(), CheckError>
         ensures { Walks result self.new (spec.alias_walked code.now name.now start.now self.old) }
     {
         let code = self.used(Role::Code, code)?;
