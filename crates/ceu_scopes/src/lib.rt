@@ -1,0 +1,6 @@
+//! Names.
+#![tactic(auto)]
+
+mod scopes;
+
+pub use scopes::Scopes;

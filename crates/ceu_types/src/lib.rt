@@ -1,0 +1,6 @@
+//! The types of expressions, and the rules on types that a program may break.
+#![tactic(auto)]
+
+mod kinds;
+
+pub use kinds::{common, holds, is_amount, open_type, result1, result2};
