@@ -1,6 +1,6 @@
 //! Names.
 #![tactic(auto)]
 
-mod scopes;
+mod known;
 
-pub use scopes::Scopes;
+pub use known::Scopes;

@@ -117,6 +117,35 @@ pub fn is_amount(t: Ty) -> bool
     }
 }
 
+pub fn is_shift(op: Op2) -> bool
+    ensures { result ≡ base.is_shift op }
+{
+    match op {
+        Op2::Shl | Op2::Shr => true,
+        _ => false,
+    }
+}
+
+/// Whether an open expression may have the operator.
+pub fn is_arithmetic1(op: Op1) -> bool
+    ensures { result ≡ spec.is_arithmetic1 op }
+{
+    match op {
+        Op1::Not => false,
+        _ => true,
+    }
+}
+
+/// Whether an open expression may have the operator.
+pub fn is_arithmetic2(op: Op2) -> bool
+    ensures { result ≡ spec.is_arithmetic2 op }
+{
+    match op {
+        Op2::Or | Op2::And | Op2::Eq | Op2::Ne | Op2::Lt | Op2::Gt | Op2::Le | Op2::Ge => false,
+        _ => true,
+    }
+}
+
 /// The type that an open expression takes where this one is wanted.
 #[tactic(auto, unfolding(crate::specs::Typing::open_type))]
 pub fn open_type(t: Ty) -> Ty
