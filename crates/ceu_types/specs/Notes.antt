@@ -5,13 +5,9 @@ use Rattle.ceu_base.specs.declared.kinds.Pos.{Pos}
 use Rattle.ceu_base.specs.declared.kinds.Rule.{Rule}
 use Rattle.ceu_scopes.specs.declared.known.Scopes.{Scopes}
 use Rattle.ceu_types.specs.Ranks.{lower}
+use Rattle.ceu_types.specs.Places.{first, at_place}
 use Rattle.ceu_types.specs.declared.found.Found.{Found}
 use Rattle.ceu_types.specs.declared.found.Broken.{Broken}
-
--- what stands earlier counts
-abbrev pub first : Option Broken → Option Broken → Option Broken
-first (Some b) later = Some b
-first None later = later
 
 -- the rule is broken at this place, unless the test holds
 unfoldable pub asks : Bool → Rule → Pos → Found → Found
@@ -47,10 +43,9 @@ not_in_finalizer f = record f { beyond_finalizer = true }
 unfoldable pub begun : Found → Found
 begun f = record f { own = None; broken = None }
 
-abbrev pub at_place : Pos → Option Rule → Option Broken
-at_place p None = None
-at_place p (Some r) = Some (record { rule = r; pos = p })
-
 -- a statement has ended: what was noted before it comes first, then the lowest rule at its first token, then its parts
-unfoldable pub ended : Pos → Found → Found → Found
-ended p before f = record f { own = before.own; broken = first before.broken (first (at_place p f.own) f.broken) }
+unfoldable pub ended_after : Pos → Option Rule → Option Broken → Found → Found
+ended_after p own broken f = record f { own = own; broken = first broken (first (at_place p f.own) f.broken) }
+
+abbrev pub ended : Pos → Found → Found → Found
+ended p before f = ended_after p before.own before.broken f

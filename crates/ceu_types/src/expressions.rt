@@ -105,7 +105,7 @@ fn literal_found(found: &mut Found, pos: Pos, fits: bool, ty: Ty) -> Result<(), 
     found.typed(ty)
 }
 
-#[tactic(auto, using(crate::proofs::Parts::founds, crate::proofs::Sizes::sizes))]
+#[tactic(auto, using(crate::proofs::ExpForms::founds, crate::proofs::Sizes::sizes))]
 pub fn exp_found(found: &mut Found, scopes: &Scopes, exp: &Exp, wanted: Ty) -> Result<(), AllocError>
     ensures { OnOk result (found.new ≡ spec.exp_found scopes.now exp.now wanted found.old) }
 {

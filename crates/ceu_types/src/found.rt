@@ -1,9 +1,11 @@
 ghost use Rattle.std.specs.Prelude.{◌≡◌};
 ghost use Rattle.ceu_types.specs.Ranks as ranks;
+ghost use Rattle.ceu_types.specs.Places as broken;
 
 use crate::uses::{past, use_type};
-use ceu_base::{Pos, Rule, Seq, Ty};
+use ceu_base::{Name, Pos, Rule, Seq, Ty};
 use ceu_scopes::Scopes;
+use sqlite_items::Items;
 use std::alloc::AllocError;
 
 /// A rule that is broken, and where.
@@ -13,13 +15,21 @@ pub struct Broken {
     pub pos: Pos,
 }
 
+/// A `do` with a label, and the type of the value that it takes.
+#[derive(Drop)]
+pub struct LabelTarget {
+    pub name: Name,
+    pub takes: Ty,
+}
+
 /// What a walk through a program in pre-order has found so far: how many uses of names it has passed, the types of the expressions,
-/// the lowest rule that the statement breaks at its first token, the first broken place after it, and whether something was passed
+/// the labels around the place, the lowest rule that the statement breaks at its first token, the first broken place after it, and whether something was passed
 /// that an `every`, an async or a finalizer around it doesn't allow.
 #[derive(Drop)]
 pub struct Found {
     pub names: usize,
     pub types: Seq<Ty>,
+    pub labels: Items<LabelTarget>,
     pub own: Option<Rule>,
     pub broken: Option<Broken>,
     pub beyond_every: bool,
@@ -58,6 +68,25 @@ fn lower(own: Option<Rule>, rule: Rule) -> Rule
     }
 }
 
+fn at_place(pos: Pos, own: Option<Rule>) -> Option<Broken>
+    ensures { result ≡ broken.at_place pos own }
+{
+    match own {
+        Some(rule) => Some(Broken { rule, pos }),
+        None => None,
+    }
+}
+
+/// What stands earlier counts.
+fn first(earlier: Option<Broken>, later: Option<Broken>) -> Option<Broken>
+    ensures { result ≡ broken.first earlier later }
+{
+    match earlier {
+        Some(broken) => Some(broken),
+        None => later,
+    }
+}
+
 impl Found {
     ghost use Rattle.std.specs.Prelude.{◌≡◌, OnOk};
     ghost use Rattle.ceu_types.specs.Notes as spec;
@@ -69,10 +98,7 @@ impl Found {
         ensures { self.new ≡ spec.asks test rule pos self.old }
     {
         if !test {
-            self.broken = match self.broken {
-                Some(earlier) => Some(earlier),
-                None => Some(Broken { rule, pos }),
-            };
+            self.broken = first(self.broken, Some(Broken { rule, pos }));
         }
     }
 
@@ -107,5 +133,45 @@ impl Found {
         ensures { self.new ≡ spec.passed scopes.now self.old }
     {
         self.names = past(scopes, self.names);
+    }
+
+    #[tactic(auto, unfolding(crate::specs::Notes::not_in_every))]
+    pub fn not_in_every(&mut self)
+        ensures { self.new ≡ spec.not_in_every self.old }
+    {
+        self.beyond_every = true;
+    }
+
+    #[tactic(auto, unfolding(crate::specs::Notes::not_in_async))]
+    pub fn not_in_async(&mut self)
+        ensures { self.new ≡ spec.not_in_async self.old }
+    {
+        self.beyond_async = true;
+    }
+
+    #[tactic(auto, unfolding(crate::specs::Notes::not_in_finalizer))]
+    pub fn not_in_finalizer(&mut self)
+        ensures { self.new ≡ spec.not_in_finalizer self.old }
+    {
+        self.beyond_finalizer = true;
+    }
+
+    /// A statement begins.
+    #[tactic(auto, unfolding(crate::specs::Notes::begun))]
+    pub fn begins(&mut self)
+        ensures { self.new ≡ spec.begun self.old }
+    {
+        self.own = None;
+        self.broken = None;
+    }
+
+    /// A statement ends, before which these were noted.
+    #[tactic(auto, unfolding(crate::specs::Notes::ended_after))]
+    pub fn ends(&mut self, pos: Pos, own: Option<Rule>, broken: Option<Broken>)
+        ensures { self.new ≡ spec.ended_after pos own broken self.old }
+    {
+        let here = first(at_place(pos, self.own), self.broken);
+        self.own = own;
+        self.broken = first(broken, here);
     }
 }

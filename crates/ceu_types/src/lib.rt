@@ -1,10 +1,14 @@
 //! The types of expressions, and the rules on types that a program may break.
 #![tactic(auto)]
 
-mod uses;
+mod around;
 mod expressions;
 mod found;
 mod kinds;
 mod operands;
+mod parts;
+mod statements;
+mod typing;
+mod uses;
 
-pub use kinds::{common, holds, is_amount, open_type, result1, result2};
+pub use typing::{Types, type_tree};

@@ -141,7 +141,7 @@ pub fn type_in(x: Operand, wanted: Ty) -> Option<Ty>
 }
 
 /// What the expression is by itself. The place in the list of uses moves behind those of the expression.
-#[tactic(auto, using(crate::proofs::Parts::operands, crate::proofs::Sizes::sizes))]
+#[tactic(auto, using(crate::proofs::ExpForms::operands, crate::proofs::Sizes::sizes))]
 pub fn operand_of(scopes: &Scopes, exp: &Exp, place: &mut usize) -> Operand
     ensures value { result ≡ spec.operand_of scopes.now exp.now place.old }
     ensures place { place.new ≡ spec.exp_past scopes.now exp.now place.old }
