@@ -1,5 +1,5 @@
 -- The arguments of a call, one after the other.
-use Rattle.std.proofs.Common.{◌≡◌, refl, ap, ◌∙◌, ℕ, zero, suc, ◌+◌, ◌<◌, length, take, get_or, add-one, arith, List, [], ◌∷◌}
+use Rattle.std.proofs.Common.{◌≡◌, refl, ap, ◌∙◌, ℕ, zero, suc, ◌+◌, ◌<◌, length, take, get_or, arith, List, [], ◌∷◌}
 use Rattle.ceu_tree.specs.declared.source.Exp.{Exp}
 use Rattle.ceu_tree.specs.declared.source.Ident.{Ident}
 use Rattle.ceu_scopes.specs.declared.known.Scopes.{Scopes}

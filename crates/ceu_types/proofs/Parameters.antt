@@ -1,5 +1,5 @@
 -- Parameters at the head of a list of declarations.
-use Rattle.std.proofs.Common.{◌≡◌, refl, ap, ◌∙◌, if◌then◌else◌, ℕ, zero, suc, ◌<◌, ◌+◌, length, drop, get_or, arith, List, [], ◌∷◌, Bool, true, false}
+use Rattle.std.proofs.Common.{◌≡◌, ap, ◌∙◌, if◌then◌else◌, ℕ, zero, suc, ◌<◌, ◌+◌, length, drop, get_or, arith, List, [], ◌∷◌, true, false}
 use Rattle.ceu_tree.specs.declared.source.Decl.{Decl}
 use Rattle.ceu_types.specs.Uses.{is_parameter, leading_parameters}
 

@@ -26,7 +26,7 @@ use Rattle.ceu_types.specs.Notes.{passed, begun, ended, not_in_finalizer}
 use Rattle.ceu_types.specs.Uses.{use_type}
 use Rattle.ceu_types.specs.Expressions.{given, condition}
 use Rattle.ceu_types.specs.Around.{code_around, async_around, loop_around, do_around, labelled, unlabelled, jumped}
-use Rattle.ceu_types.specs.Statements.{stmt_found, source_found, value_found, do_found, block_found, arm_found, last_found, range_found, items_found, arms_found, blocks_found, nodes_found, node_stepped, item_stepped, if_source_found, arm_stepped, block_stepped, if_block_found, name_typed, if_spawn_found, params_found, emit_found, await_found, await_type, spawn_found, escape_found, target_found, taken, waits, acts, every_begun, every_ended, finalizer_begun, finalizer_ended, async_begun, async_ended}
+use Rattle.ceu_types.specs.Statements.{stmt_found, source_found, value_found, do_found, block_found, arm_found, last_found, items_found, arms_found, blocks_found, nodes_found, node_stepped, item_stepped, if_source_found, arm_stepped, block_stepped, if_block_found, name_typed, if_spawn_found, params_found, emit_found, await_found, await_type, spawn_found, escape_found, target_found, taken, waits, acts, every_begun, every_ended, finalizer_begun, finalizer_ended, async_begun, async_ended}
 use denote.Hole.Carrier
 
 pub found_nothing : (s : Scopes) (a : Around) (f : Found) →

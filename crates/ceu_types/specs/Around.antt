@@ -12,7 +12,7 @@ use Rattle.ceu_types.specs.declared.found.Found.{Found}
 use Rattle.ceu_types.specs.declared.found.LabelTarget.{LabelTarget}
 use Rattle.ceu_types.specs.declared.around.Around.{Around}
 use Rattle.ceu_types.specs.Typing.{is_none_type}
-use Rattle.ceu_types.specs.Notes.{asks_own, not_in_async, not_in_finalizer}
+use Rattle.ceu_types.specs.Notes.{asks_own, not_in_async}
 
 -- the program's text, whose escapes give the program's status
 abbrev pub program_around : Around

@@ -1,9 +1,9 @@
 -- Which types meet, and what an operator gives for the types of its operands.
-use Rattle.std.specs.Prelude.{Bool, true, false, not, ◌&&◌, ◌||◌, if◌then◌else◌, ℕ, nat_lt, int_le, List, [], ◌∷◌, find, Option, Some, None, is_some, is_none, unwrap_or, option_map}
+use Rattle.std.specs.Prelude.{Bool, true, false, not, ◌&&◌, ◌||◌, if◌then◌else◌, nat_lt, int_le, [], ◌∷◌, find, Option, Some, None, unwrap_or, option_map}
 use Rattle.ceu_base.specs.declared.kinds.Ty.{Ty}
 use Rattle.ceu_base.specs.declared.kinds.Ty.TheVariants as ty
 use Rattle.ceu_base.specs.declared.kinds.Op1.{Op1}
-use Rattle.ceu_base.specs.declared.kinds.Op1.TheVariants.{Not, Neg, Compl}
+use Rattle.ceu_base.specs.declared.kinds.Op1.TheVariants.{Not}
 use Rattle.ceu_base.specs.declared.kinds.Op2.{Op2}
 use Rattle.ceu_base.specs.declared.kinds.Op2.TheVariants.{Or, And, Eq, Ne, Lt, Gt, Le, Ge}
 use Rattle.ceu_base.specs.Values.{least, above, width, is_signed, is_numeric, is_bool, is_shift, takes1}

@@ -1,4 +1,4 @@
-use Rattle.std.proofs.Common.{◌≡◌, suc, take}
+use Rattle.std.proofs.Common.{◌≡◌, take}
 use Rattle.std.specs.List.{fold}
 use Rattle.ceu_tree.specs.declared.source.Block.{out-Block}
 use Rattle.ceu_types.specs.Statements as spec
