@@ -1,1 +1,6 @@
-
+pub mod Entries
+pub mod Shown
+pub mod Walk
+pub mod Rules
+pub mod Names
+pub mod Answers

@@ -1,0 +1,12 @@
+pub mod Sizes
+pub mod Depths
+pub mod NeedLaws
+pub mod GateLaws
+pub mod PathLaws
+pub mod CalmLaws
+pub mod WaitLaws
+pub mod EnterLaws
+pub mod StayLaws
+pub mod WokenLaws
+pub mod UseLaws
+pub mod WeightLaws

@@ -1,0 +1,5 @@
+pub mod Bytes
+pub mod Gaps
+pub mod Positions
+pub mod Lexemes
+pub mod Texts
