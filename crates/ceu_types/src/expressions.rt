@@ -3,7 +3,9 @@ ghost use Rattle.ceu_base.specs.Values as base;
 ghost use Rattle.ceu_types.specs.Expressions as spec;
 
 use crate::found::Found;
-use crate::kinds::{holds, is_amount, is_arithmetic1, is_arithmetic2, is_bool, is_none, is_shift, open_type};
+use crate::kinds::{
+    holds, is_amount, is_arithmetic1, is_arithmetic2, is_bool, is_none, is_shift, open_type,
+};
 use crate::operands::{Operand, joined, operand_of, or_int, or_none, prefixed, type_in};
 use ceu_base::{Op1, Op2, Pos, Rule, Ty, is_value};
 use ceu_scopes::Scopes;
@@ -106,7 +108,12 @@ fn literal_found(found: &mut Found, pos: Pos, fits: bool, ty: Ty) -> Result<(), 
 }
 
 #[tactic(auto, using(crate::proofs::ExpForms::founds, crate::proofs::Sizes::sizes))]
-pub fn exp_found(found: &mut Found, scopes: &Scopes, exp: &Exp, wanted: Ty) -> Result<(), AllocError>
+pub fn exp_found(
+    found: &mut Found,
+    scopes: &Scopes,
+    exp: &Exp,
+    wanted: Ty,
+) -> Result<(), AllocError>
     ensures { OnOk result (found.new ≡ spec.exp_found scopes.now exp.now wanted found.old) }
 {
     match &exp.node {

@@ -169,7 +169,11 @@ pub fn result1(op: Op1, t: Ty) -> Option<Ty>
 fn if_bools(t: Ty, u: Ty) -> Option<Ty>
     ensures { result ≡ spec.if_bools t u }
 {
-    if is_bool(t) && is_bool(u) { Some(Ty::Bool) } else { None }
+    if is_bool(t) && is_bool(u) {
+        Some(Ty::Bool)
+    } else {
+        None
+    }
 }
 
 fn compared(t: Option<Ty>) -> Option<Ty>
@@ -188,7 +192,11 @@ pub fn result2(op: Op2, t: Ty, u: Ty) -> Option<Ty>
 {
     match op {
         Op2::Shl | Op2::Shr => {
-            if is_numeric(t) && is_amount(u) { Some(t) } else { None }
+            if is_numeric(t) && is_amount(u) {
+                Some(t)
+            } else {
+                None
+            }
         }
         Op2::Or | Op2::And => if_bools(t, u),
         Op2::Eq | Op2::Ne => match if_bools(t, u) {

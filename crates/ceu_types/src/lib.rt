@@ -12,3 +12,6 @@ mod typing;
 mod uses;
 
 pub use typing::{Types, type_tree};
+
+#[cfg(test)]
+mod tests;

@@ -2,8 +2,10 @@ ghost use Rattle.std.specs.Prelude.{◌≡◌, pos, neg_ℤ};
 ghost use Rattle.ceu_types.specs.Expressions as spec;
 ghost use Rattle.ceu_types.specs.Typing as typing;
 
+use crate::kinds::{
+    is_arithmetic1, is_arithmetic2, is_none, is_shift, open_type, result1, result2,
+};
 use crate::uses::{past, use_type};
-use crate::kinds::{is_arithmetic1, is_arithmetic2, is_none, is_shift, open_type, result1, result2};
 use ceu_base::{Op1, Op2, Ty};
 use ceu_scopes::Scopes;
 use ceu_tree::{Exp, ExpNode};

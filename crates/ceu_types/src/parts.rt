@@ -55,7 +55,12 @@ impl Found {
     }
 }
 
-fn if_given(found: &mut Found, scopes: &Scopes, value: &Option<Exp>, ty: Ty) -> Result<(), AllocError>
+fn if_given(
+    found: &mut Found,
+    scopes: &Scopes,
+    value: &Option<Exp>,
+    ty: Ty,
+) -> Result<(), AllocError>
     ensures { OnOk result (found.new ≡ spec.if_given scopes.now value.now ty found.old) }
 {
     match value {
@@ -65,7 +70,12 @@ fn if_given(found: &mut Found, scopes: &Scopes, value: &Option<Exp>, ty: Ty) -> 
 }
 
 /// The arguments of a call of the code whose use stands at this place of the list of uses.
-fn arguments_found(found: &mut Found, scopes: &Scopes, code: usize, args: &[Exp]) -> Result<(), AllocError>
+fn arguments_found(
+    found: &mut Found,
+    scopes: &Scopes,
+    code: usize,
+    args: &[Exp],
+) -> Result<(), AllocError>
     ensures { OnOk result (found.new ≡ spec.arguments_found scopes.now code 0 args.now found.old) }
 {
     for (i, exp) in args.iter().enumerate() {
@@ -79,7 +89,10 @@ fn call_found(found: &mut Found, scopes: &Scopes, call: &Call) -> Result<(), All
     ensures { OnOk result (found.new ≡ spec.call_found scopes.now call.now found.old) }
 {
     let code = found.names;
-    found.asks_own(has_parameters(scopes, code, call.args.items().len()), Rule::T4);
+    found.asks_own(
+        has_parameters(scopes, code, call.args.items().len()),
+        Rule::T4,
+    );
     found.passes(scopes);
     arguments_found(found, scopes, code, call.args.items())
 }
@@ -94,7 +107,11 @@ pub fn spawn_found(found: &mut Found, scopes: &Scopes, start: &Spawn) -> Result<
     Ok(())
 }
 
-pub fn if_spawn_found(found: &mut Found, scopes: &Scopes, start: &Option<Spawn>) -> Result<(), AllocError>
+pub fn if_spawn_found(
+    found: &mut Found,
+    scopes: &Scopes,
+    start: &Option<Spawn>,
+) -> Result<(), AllocError>
     ensures { OnOk result (found.new ≡ spec.if_spawn_found scopes.now start.now found.old) }
 {
     match start {
@@ -285,7 +302,12 @@ fn uses_passed(found: &mut Found, scopes: &Scopes, listed: &[Ident])
 
 /// An async begins. The labels around it are handed back, since they don't count in it.
 #[tactic(auto, unfolding(crate::specs::Statements::async_begun))]
-pub fn async_begun(found: &mut Found, alloc: Global, scopes: &Scopes, listed: &[Ident]) -> Items<LabelTarget>
+pub fn async_begun(
+    found: &mut Found,
+    alloc: Global,
+    scopes: &Scopes,
+    listed: &[Ident],
+) -> Items<LabelTarget>
     ensures state { found.new ≡ spec.async_begun scopes.now listed.now found.old }
     ensures labels { result ≡ found.old.labels }
 {

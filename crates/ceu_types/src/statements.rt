@@ -5,8 +5,9 @@ use crate::around::Around;
 use crate::expressions::{condition, given};
 use crate::found::Found;
 use crate::parts::{
-    async_begun, async_ended, await_found, await_type, emit_found, escape_found, every_begun, every_ended, finalizer_begun,
-    finalizer_ended, if_spawn_found, params_found, spawn_found, target_found,
+    async_begun, async_ended, await_found, await_type, emit_found, escape_found, every_begun,
+    every_ended, finalizer_begun, finalizer_ended, if_spawn_found, params_found, spawn_found,
+    target_found,
 };
 use ceu_base::{Rule, Ty};
 use ceu_scopes::Scopes;
@@ -15,7 +16,13 @@ use std::alloc::{AllocError, Global};
 
 #[cycle(statements)]
 #[tactic(auto, using(crate::proofs::StmtForms::forms, crate::proofs::StmtSizes::stmt_sizes))]
-fn stmt_found(found: &mut Found, alloc: Global, scopes: &Scopes, around: Around, stmt: &Stmt) -> Result<(), AllocError>
+fn stmt_found(
+    found: &mut Found,
+    alloc: Global,
+    scopes: &Scopes,
+    around: Around,
+    stmt: &Stmt,
+) -> Result<(), AllocError>
     ensures { OnOk result (found.new ≡ spec.stmt_found scopes.now around stmt.now found.old) }
 {
     match stmt {
@@ -169,7 +176,13 @@ fn do_found(
     ensures { OnOk result (found.new ≡ spec.do_found scopes.now around ty body.now found.old) }
 {
     found.labelled(alloc, &body.label, ty)?;
-    block_found(found, alloc, scopes, around.of_do(&body.label, ty), &body.body)?;
+    block_found(
+        found,
+        alloc,
+        scopes,
+        around.of_do(&body.label, ty),
+        &body.body,
+    )?;
     found.unlabelled(&body.label);
     Ok(())
 }
@@ -193,7 +206,13 @@ pub fn block_found(
 
 #[cycle(statements)]
 #[tactic(auto, using(crate::proofs::StmtForms::forms, crate::proofs::StmtSizes::stmt_sizes))]
-fn node_found(found: &mut Found, alloc: Global, scopes: &Scopes, around: Around, node: &Node) -> Result<(), AllocError>
+fn node_found(
+    found: &mut Found,
+    alloc: Global,
+    scopes: &Scopes,
+    around: Around,
+    node: &Node,
+) -> Result<(), AllocError>
     ensures { OnOk result (found.new ≡ spec.node_stepped scopes.now around found.old node.now) }
 {
     let own = found.own;

@@ -9,5 +9,5 @@ loop-label-preserved c =
     let below : c.loop-label.label-index < length c.args.labels.now = omega arith in
     let more = takes_more c.args.labels.now c.args.name.now c.loop-label.label-index c.label-item.result below in
     let here : takes_if_named (get_or c.args.labels.now c.loop-label.label-index c.label-item.result) c.args.name.now ≡ takes_if_named c.label-item.result c.args.name.now
-        = ap (λ l. takes_if_named l c.args.name.now) (sym c.label-item.is) in
+    = ap (λ l. takes_if_named l c.args.name.now) (sym c.label-item.is) in
     rw add-one (grind (arith, common_steps, more, here))

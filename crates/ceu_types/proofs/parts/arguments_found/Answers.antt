@@ -11,6 +11,6 @@ loop-i-preserved c =
     let below : c.loop-i.i < length c.args.args.now = omega arith in
     let more = arguments_next c.args.scopes.now c.args.code c.args.args.now c.args.found.now c.loop-i.i c.index-args-i.result below in
     let here : given c.args.scopes.now (get_or c.args.args.now c.loop-i.i c.index-args-i.result) (parameter_type c.args.scopes.now c.args.code c.loop-i.i) (arguments_found c.args.scopes.now c.args.code 0 (take c.loop-i.i c.args.args.now) c.args.found.now)
-        ≡ given c.args.scopes.now c.index-args-i.result (parameter_type c.args.scopes.now c.args.code c.loop-i.i) (arguments_found c.args.scopes.now c.args.code 0 (take c.loop-i.i c.args.args.now) c.args.found.now)
-        = ap (λ e. given c.args.scopes.now e (parameter_type c.args.scopes.now c.args.code c.loop-i.i) (arguments_found c.args.scopes.now c.args.code 0 (take c.loop-i.i c.args.args.now) c.args.found.now)) (sym c.index-args-i.is) in
+    ≡ given c.args.scopes.now c.index-args-i.result (parameter_type c.args.scopes.now c.args.code c.loop-i.i) (arguments_found c.args.scopes.now c.args.code 0 (take c.loop-i.i c.args.args.now) c.args.found.now)
+    = ap (λ e. given c.args.scopes.now e (parameter_type c.args.scopes.now c.args.code c.loop-i.i) (arguments_found c.args.scopes.now c.args.code 0 (take c.loop-i.i c.args.args.now) c.args.found.now)) (sym c.index-args-i.is) in
     rw add-one (grind (arith, common_steps, more, here))
