@@ -147,6 +147,7 @@ module _ (p : Pos) where
       where
         timed : ℕ → Config
         timed m = reacts K k (each_leaf (by_time (d - m)) (each_leaf (later m) r)) w
+
         go : (o : Option ℕ) → ((m : ℕ) → Balances (timed m) (advance K k j (d - m) (timed m))) → Balances (Waiting r w) (elim o [
           | None ↦ Waiting r w
           | Some m ↦ elim (nat_le m d) [
@@ -189,6 +190,7 @@ module _ (p : Pos) where
       where
         u : World
         u = (stepped K 0 root f w).world
+
         go : (x : Outcome) → Kept p w (standing_focus p f) u (left_whole p x) → ((g : Focus Act) → Serves u (standing_focus p g) (serve K k root g u)) → Serves w (standing_focus p f) (elim x [
           | Goes g ↦ elim (is_again (leaf g)) [ true ↦ Turned (plug g (Run 0 Again)) u | false ↦ serve K k root g u ]
           | Fails e r ↦ Failed e r u
@@ -244,6 +246,7 @@ module _ (p : Pos) where
       where
         whole : standing p (leaf g).inner + standing_focus p g ≡ standing p r
         whole = let a = plug_stands p g h.was in let b = unserved_stands h.was (leaf g) h.picked in let c = ap (standing p) h.plugs in omega (arith, a, b, c)
+
         go : (x : Served) → Serves w (standing p (leaf g).inner) x → Comes w (standing p r) (after_serving K k g x r w)
         go Unfinished a = kept_same p w w _ refl refl
         go (Turned q u) a = kept_equal p w u _ _ _ _ refl (sym (plug_stands p g (InAsync (leaf g).stmt true q))) (beside g w u _ _ _ whole a)
@@ -264,6 +267,7 @@ module _ (p : Pos) where
       where
         again : Residual
         again = each_leaf new_round r
+
         go : (o : Option (Focus Unserved)) → FoundIn Unserved unserved r o → Balances (Waiting r w) (elim o [ Some g ↦ served K k (Some g) r w | None ↦ served K k (choose Unserved unserved again) again w ])
         go (Some g) h = served_balances k (Some g) r w h
         go None h =

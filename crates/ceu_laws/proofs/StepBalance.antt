@@ -137,14 +137,19 @@ module _ (p : Pos) (K : Kernel) (n : ℕ) (root body : Body) (f : Focus Act) whe
     where
       number : ℕ
       number = w.given + 1
+
       u : World
       u = set_parameters (InstanceBody number) c.params vs (set_alias body alias (Names number) (record w { given = number; living = number ∷ w.living }))
+
       seat : Seat
       seat = record { pool = pool; place = place; code = code; number = number }
+
       q : Quiet w u
       q = quiet_then w _ u (quiet_then w _ _ (record { marks = refl; fault = refl }) (set_alias_quiet body alias (Names number) (record w { given = number; living = number ∷ w.living }))) (set_parameters_quiet (InstanceBody number) c.params vs _)
+
       left_over : standing p (plug (seated seat (Run (n + 1) (Begin c.body)) f) (Run n (Finish s (pos 0)))) ≡ standing_focus p f
       left_over = let a = plug_stands p (seated seat (Run (n + 1) (Begin c.body)) f) (Run n (Finish s (pos 0))) in let b = seated_stands p seat (Run (n + 1) (Begin c.body)) f refl in omega (arith, a, b)
+
       go : (b : Bool) → Result w (if b then moved (Fails (SpawnCount, s.pos) (plug f Over)) w else moved (Raises (plug (seated seat (Run (n + 1) (Begin c.body)) f) (Run n (Finish s (pos 0))))) (marked (mark.Push (n + 1)) (marked (mark.Spawned number) u)))
       go true = plugged w w (Fails (SpawnCount, s.pos)) Over (λ r. refl) refl (quiet w)
       go false =
@@ -157,6 +162,7 @@ module _ (p : Pos) (K : Kernel) (n : ℕ) (root body : Body) (f : Focus Act) whe
     where
       q : Quiet w (set_alias body alias NotSet w)
       q = set_alias_quiet body alias NotSet w
+
       go : (o : Option ℕ) → Result w (elim o [
         | None ↦ answered root f Past (marked mark.Full (set_alias body alias NotSet w))
         | Some place ↦ spawned_at n body f s c code pool place alias vs w

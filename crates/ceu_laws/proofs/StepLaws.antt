@@ -104,10 +104,11 @@ module _ (K : Kernel) where
       where
         timed : ℕ → ℕ → Config
         timed b m = reacts K b (each_leaf (by_time (d - m)) (each_leaf (later m) r)) w
+
         go : (o : Option ℕ) → ((m : ℕ) (c : Config) → is_reacting (advance K n j (d - m) c) ≡ false → advance K k j (d - m) c ≡ advance K n j (d - m) c)
-            → is_reacting (elim o [ | None ↦ Waiting r w | Some m ↦ elim (nat_le m d) [ | true ↦ advance K n j (d - m) (timed n m) | false ↦ Waiting (each_leaf (later d) r) w ] ]) ≡ false
-            → ◌≡◌ {A = Config} (elim o [ | None ↦ Waiting r w | Some m ↦ elim (nat_le m d) [ | true ↦ advance K k j (d - m) (timed k m) | false ↦ Waiting (each_leaf (later d) r) w ] ])
-            (elim o [ | None ↦ Waiting r w | Some m ↦ elim (nat_le m d) [ | true ↦ advance K n j (d - m) (timed n m) | false ↦ Waiting (each_leaf (later d) r) w ] ])
+            → is_reacting (elim o [ None ↦ Waiting r w | Some m ↦ elim (nat_le m d) [ true ↦ advance K n j (d - m) (timed n m) | false ↦ Waiting (each_leaf (later d) r) w ] ]) ≡ false
+            → ◌≡◌ {A = Config} (elim o [ None ↦ Waiting r w | Some m ↦ elim (nat_le m d) [ true ↦ advance K k j (d - m) (timed k m) | false ↦ Waiting (each_leaf (later d) r) w ] ])
+            (elim o [ None ↦ Waiting r w | Some m ↦ elim (nat_le m d) [ true ↦ advance K n j (d - m) (timed n m) | false ↦ Waiting (each_leaf (later d) r) w ] ])
         go None ih e = refl
         go (Some m) ih e = inner (nat_le m d) e
           where
@@ -129,6 +130,7 @@ module _ (K : Kernel) where
       where
         u : World
         u = (stepped K 0 root f w).world
+
         found : ℕ → Outcome → Served
         found b x = elim x [
           | Goes g ↦ elim (is_again (leaf g)) [ true ↦ Turned (plug g (Run 0 Again)) u | false ↦ serve K b root g u ]
@@ -137,6 +139,7 @@ module _ (K : Kernel) where
           | Raises r ↦ Turned r u
           | _ ↦ Done u
         ]
+
         go : (x : Outcome) → ((g : Focus Act) → is_cut (serve K n root g u) ≡ false → serve K k root g u ≡ serve K n root g u) → is_cut (found n x) ≡ false → found k x ≡ found n x
         go (Goes g) ih e = inner (is_again (leaf g)) e
           where
@@ -175,6 +178,7 @@ module _ (K : Kernel) where
       where
         again : Residual
         again = each_leaf new_round r
+
         go : (o : Option (Focus Unserved)) → is_reacting (elim o [ Some g ↦ served K n (Some g) r w | None ↦ served K n (choose Unserved unserved again) again w ]) ≡ false
             → ◌≡◌ {A = Config} (elim o [ Some g ↦ served K k (Some g) r w | None ↦ served K k (choose Unserved unserved again) again w ])
             (elim o [ Some g ↦ served K n (Some g) r w | None ↦ served K n (choose Unserved unserved again) again w ])

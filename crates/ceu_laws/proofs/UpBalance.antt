@@ -159,9 +159,11 @@ up_balanced p (In fr f) x body w h =
     let inner = up_balanced p f x (body_in fr body) w h in
     let m = up (body_in fr body) f x w in
     let outer = through_balanced p body m.world fr f m.outcome in
-    record { kept = kept_then p w m.world _ _ (standing_frame p fr + left p f m.outcome) _
-        (kept_equal p w m.world (standing_focus p f + standing_frame p fr) (left p f m.outcome + standing_frame p fr) _ _ (omega arith) (omega arith)
-        (kept_beside p w m.world _ _ (standing_frame p fr) inner.kept)) outer.kept }
+    record {
+      kept = kept_then p w m.world _ _ (standing_frame p fr + left p f m.outcome) _
+          (kept_equal p w m.world (standing_focus p f + standing_frame p fr) (left p f m.outcome + standing_frame p fr) _ _ (omega arith) (omega arith)
+          (kept_beside p w m.world _ _ (standing_frame p fr) inner.kept)) outer.kept;
+    }
 
 -- of a whole focus: no exit is left
 abbrev pub left_whole : Pos → Outcome → ℕ

@@ -8,17 +8,14 @@ ghost use Rattle.ceu_laws.specs.Steps.{ReactionsStand, RunsStand};
 /// has run and stands registered. None stands once the program has ended or faulted.
 pub fn finalizers_balance()
     ensures { FinalizersBalance }
-{
-}
+{}
 
 /// A step is a function, so a reaction has one outcome: once it is over, a larger bound on its steps gives the same.
 pub fn reactions_stand()
     ensures { ReactionsStand }
-{
-}
+{}
 
 /// So too of a whole run.
 pub fn runs_stand()
     ensures { RunsStand }
-{
-}
+{}
