@@ -17,3 +17,7 @@ pub mod Run
 pub mod Text
 pub mod Cut
 pub mod Marks
+pub mod Typing
+pub mod Numbering
+pub mod Mentions
+pub mod Proper
