@@ -33,6 +33,11 @@ unfoldable pub ◌>>=◌ : {A B E : Type 0} → Result A E → (A → Result B E
 Ok x >>= f = f x
 Err e >>= f = Err e
 
+-- a step for each item of a list, in order
+unfoldable pub each : {A S : Type 0} → (A → S → Result S Broken) → List A → S → Result S Broken
+each f [] s = Ok s
+each f (x ∷ xs) s = f x s >>= each f xs
+
 -- ---- what is visible
 
 -- inputs, outputs and code are seen everywhere

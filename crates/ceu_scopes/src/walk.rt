@@ -1,6 +1,7 @@
 ghost use Rattle.std.specs.Prelude.{◌≡◌, [], None, Option, IfOk, IfErr, OnOk, OnErr};
 ghost use Rattle.ceu_base.specs.declared.kinds.CheckError.TheVariants.{Memory};
 ghost use Rattle.ceu_scopes.specs.Answers.{Gives, Walks};
+ghost use Rattle.ceu_scopes.specs.Names.{fresh_walk};
 ghost use Rattle.ceu_scopes.specs.Walk as spec;
 ghost use Rattle.ceu_scopes.specs.Rules as rules;
 
@@ -24,7 +25,7 @@ pub struct Walk {
     pub uses: Seq<u32>,
 }
 
-fn in_memory<T>(answer: Result<T, AllocError>) -> Result<T, CheckError>
+pub fn in_memory<T>(answer: Result<T, AllocError>) -> Result<T, CheckError>
 where
     T: Drop,
     ensures ok { IfOk result (λ x. answer ≡ Ok x) }
@@ -35,6 +36,19 @@ where
 
 #[tactic(auto, using(crate::proofs::Laws::steps))]
 impl Walk {
+    /// Before the first token of a program.
+    pub fn new(alloc: Global) -> Walk
+        ensures { result ≡ fresh_walk }
+    {
+        Walk {
+            scopes: Stack::new(alloc),
+            labels: Stack::new(alloc),
+            blocks: 0,
+            decls: Seq::new(alloc),
+            uses: Seq::new(alloc),
+        }
+    }
+
     /// A block opens behind this border.
     #[tactic(auto, unfolding(crate::specs::Walk::opened))]
     pub fn open(&mut self, alloc: Global, border: Border) -> Result<(), CheckError>
@@ -142,7 +156,14 @@ impl Walk {
 
     /// A declaration, with one more rule to ask at its name.
     #[tactic(auto, using(crate::proofs::Laws::steps), unfolding(crate::specs::Rules::declared))]
-    pub fn declare(&mut self, alloc: Global, class: Class, ty: Ty, besides: Option<Rule>, name: &Ident) -> Result<(), CheckError>
+    pub fn declare(
+        &mut self,
+        alloc: Global,
+        class: Class,
+        ty: Ty,
+        besides: Option<Rule>,
+        name: &Ident,
+    ) -> Result<(), CheckError>
         ensures { Walks result self.new (rules.declared class ty besides name.now self.old) }
     {
         let scopes = self.scopes.outermost_first();
@@ -154,12 +175,14 @@ impl Walk {
         }
         let block = block_of(scopes);
         let copy = in_memory(Name::new(alloc, name.name.text()))?;
-        in_memory(self.decls.push(Decl {
-            class,
-            ty,
-            pos: name.pos,
-            block,
-            name: copy,
-        }))
+        in_memory(
+            self.decls.push(Decl {
+                class,
+                ty,
+                pos: name.pos,
+                block,
+                name: copy,
+            }),
+        )
     }
 }
