@@ -12,7 +12,7 @@ use Rattle.ceu_scopes.specs.declared.known.Role.TheVariants as role
 use Rattle.ceu_scopes.specs.declared.walk.Walk.{Walk}
 use Rattle.ceu_scopes.specs.Walk.{◌>>=◌}
 use Rattle.ceu_scopes.specs.Rules.{named}
-use Rattle.ceu_scopes.specs.Names.{node_walked, operand_walked, exp_walked}
+use Rattle.ceu_scopes.specs.Names.{node_walked}
 use denote.Hole.Carrier
 
 pub walked_number : (n : ℕ) (w : Walk) → node_walked (exp.Number n) w ≡ Ok w

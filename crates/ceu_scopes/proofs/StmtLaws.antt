@@ -1,5 +1,5 @@
 -- The walk of statements and their parts, by their forms, as the code sees them.
-use Rattle.std.proofs.Common.{◌≡◌, refl, sym, ap, ◌∙◌, ℕ, List, [], ◌∷◌, Option, Some, None, Ok}
+use Rattle.std.proofs.Common.{◌≡◌, refl, sym, ap, ◌∙◌, ℕ, List, [], Option, Some, None, Ok}
 use Rattle.ceu_base.specs.declared.kinds.Ty.{Ty}
 use Rattle.ceu_tree.specs.declared.kernel.ParKind.{ParKind}
 use Rattle.ceu_tree.specs.declared.source.Class.TheVariants as class
@@ -13,7 +13,6 @@ use Rattle.ceu_tree.specs.declared.source.Source as source
 use Rattle.ceu_tree.specs.declared.source.Source.{Source}
 use Rattle.ceu_tree.specs.declared.source.Item.{Item, back-Item-value, Item-value-None', Item-value-Some'}
 use Rattle.ceu_tree.specs.declared.source.Do.{Do, Do', out-Do}
-use Rattle.ceu_tree.specs.declared.source.Node.{Node}
 use Rattle.ceu_tree.specs.declared.source.Block.{Block, Block', out-Block, Row_of-Node, end_of-Node, more_of-Node, items-the_row-Node, items_shown-the_row-Node-3}
 use Rattle.ceu_tree.specs.declared.source.Arm.{Arm, Arm', out-Arm}
 use Rattle.ceu_tree.specs.declared.source.Range.{Range, Range', out-Range}
@@ -22,11 +21,11 @@ use Rattle.ceu_tree.specs.declared.source.Stmt.{Stmt, Row_of-Item, end_of-Item, 
 use Rattle.ceu_tree.specs.declared.source.Source.TheBlock.{hidden-the_row-Item-0, hidden-the_row-Arm-1, hidden-the_row-Block-2}
 use Rattle.ceu_scopes.specs.declared.known.Role.TheVariants as role
 use Rattle.ceu_scopes.specs.declared.scope.Border.{Border}
-use Rattle.ceu_scopes.specs.declared.scope.Border.TheVariants.{Plain, Async}
+use Rattle.ceu_scopes.specs.declared.scope.Border.TheVariants.{Plain}
 use Rattle.ceu_scopes.specs.declared.walk.Walk.{Walk}
-use Rattle.ceu_scopes.specs.Walk.{Step, ◌>>=◌, each, opened, closed, shown, fresh}
-use Rattle.ceu_scopes.specs.Rules.{named, used, declared, inside_broken}
-use Rattle.ceu_scopes.specs.Names.{exp_walked, if_exp_walked, await_walked, spawn_walked, target_walked, ident_declared, port_declared, pool_declared, alias_declared, params_opened, range_opened, labelled, unlabelled, leave_walked, emit_walked, list_walked, code_opened, every_walked, target_assigned, pool_walked, alias_walked, async_walked, value_broken, stmt_walked, source_walked, value_walked, do_walked, block_walked, arm_walked, last_walked, range_walked, items_walked, arms_walked, blocks_walked, nodes_walked}
+use Rattle.ceu_scopes.specs.Walk.{◌>>=◌, each, opened, closed, shown, fresh}
+use Rattle.ceu_scopes.specs.Rules.{named}
+use Rattle.ceu_scopes.specs.Names.{exp_walked, await_walked, spawn_walked, target_walked, ident_declared, port_declared, range_opened, labelled, unlabelled, leave_walked, emit_walked, list_walked, code_opened, every_walked, target_assigned, pool_walked, alias_walked, async_walked, stmt_walked, source_walked, value_walked, do_walked, block_walked, arm_walked, last_walked, range_walked, items_walked, arms_walked, blocks_walked, nodes_walked}
 use Rattle.ceu_scopes.specs.Parts.{statement_walked, branch_walked, item_walked}
 use denote.Hole.Carrier
 

@@ -3,7 +3,6 @@
 use Rattle.std.specs.Prelude.{◌≡◌, Result, Ok, Err, ⊤}
 use Rattle.ceu_base.specs.declared.kinds.CheckError.{CheckError}
 use Rattle.ceu_base.specs.declared.kinds.CheckError.TheVariants.{Refused, Memory}
-use Rattle.ceu_scopes.specs.declared.known.Known.{Known}
 use Rattle.ceu_scopes.specs.declared.walk.Walk.{Walk}
 use Rattle.ceu_scopes.specs.Walk.{Broken, Step}
 

@@ -7,7 +7,7 @@
 -- `scopes_of tree` is the whole answer. What reads the tree again in the same order needs no scopes of its own: the n-th name that
 -- neither declares nor is a label has the n-th number of `uses`, which names an item of `decls`; the parameters of a code stand right
 -- behind it in `decls`.
-use Rattle.std.specs.Prelude.{ℕ, List, [], ◌∷◌, ◌++◌, Option, Some, None, Result, Ok, Err, if◌then◌else◌}
+use Rattle.std.specs.Prelude.{ℕ, List, [], ◌∷◌, Option, Some, None, Result, Ok}
 use Rattle.ceu_base.specs.declared.kinds.Rule.{Rule}
 use Rattle.ceu_base.specs.declared.kinds.Rule.TheVariants.{N3}
 use Rattle.ceu_base.specs.declared.kinds.Ty.{Ty}

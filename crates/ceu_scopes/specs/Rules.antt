@@ -1,6 +1,6 @@
 -- The rules on one name: N1, N4 and N5 where it has no declaration, N2 where it is declared twice, N3 where its class or its code
 -- is wrong, N6 where an async doesn't list it, N7 where an alias stands outside the block of the pool.
-use Rattle.std.specs.Prelude.{ℕ, ◌+◌, Bool, true, false, not, ◌&&◌, ◌||◌, ◌==◌, nat_lt, List, [], ◌∷◌, ◌++◌, Option, Some, None, Result, Ok, Err, is_some, bytes_eq, if◌then◌else◌}
+use Rattle.std.specs.Prelude.{ℕ, Bool, true, false, not, ◌&&◌, ◌||◌, ◌==◌, nat_lt, List, [], ◌∷◌, ◌++◌, Option, Some, None, Result, Ok, Err, is_some, bytes_eq, if◌then◌else◌}
 use Rattle.ceu_base.specs.declared.kinds.Rule.{Rule}
 use Rattle.ceu_base.specs.declared.kinds.Rule.TheVariants.{N1, N2, N3, N6, N7}
 use Rattle.ceu_base.specs.declared.kinds.Pos.{Pos}
@@ -9,15 +9,13 @@ use Rattle.ceu_tree.specs.declared.source.Class.{Class}
 use Rattle.ceu_tree.specs.declared.source.Class.TheVariants as class
 use Rattle.ceu_tree.specs.declared.source.Ident.{Ident}
 use Rattle.ceu_tree.specs.declared.source.Spawn.{Spawn}
-use Rattle.ceu_tree.specs.declared.source.Label.{Label}
-use Rattle.ceu_tree.specs.declared.source.Label.TheVariants as label
 use Rattle.ceu_scopes.specs.declared.known.Known.{Known}
 use Rattle.ceu_scopes.specs.declared.known.Role.{Role}
 use Rattle.ceu_scopes.specs.declared.known.Role.TheVariants as role
 use Rattle.ceu_scopes.specs.declared.scope.Scope.{Scope}
 use Rattle.ceu_scopes.specs.declared.walk.Walk.{Walk}
 use Rattle.ceu_scopes.specs.Shown.{found}
-use Rattle.ceu_scopes.specs.Walk.{Broken, Step, ◌>>=◌, is_global, decl_of, is_listed, names_of, block_of}
+use Rattle.ceu_scopes.specs.Walk.{Broken, Step, ◌>>=◌, decl_of, is_listed, names_of, block_of}
 
 -- a rule that is broken at a place ends the walk
 abbrev pub checked : {A : Type 0} → Option Rule → Pos → A → Result A Broken

@@ -4,17 +4,16 @@
 -- the declarations that it shows so far: a name is shown from the end of the item or form that declares it to the end of its block.
 -- A use of a name has the first declaration that is found from the innermost block outward. Between a block and the one around it
 -- may stand a border: the list of an async, or the head of a code body, through which only external events and code are seen.
-use Rattle.std.specs.Prelude.{ℕ, ◌+◌, Bool, true, false, ◌&&◌, ◌||◌, ◌==◌, List, [], ◌∷◌, ◌++◌, Option, Some, None, Result, Ok, Err, ok_or, is_some, length, bytes_eq, if◌then◌else◌}
+use Rattle.std.specs.Prelude.{ℕ, ◌+◌, Bool, true, false, ◌&&◌, ◌||◌, ◌==◌, List, [], ◌∷◌, Option, Some, None, Result, Ok, Err, ok_or, length, bytes_eq, if◌then◌else◌}
 use Rattle.ceu_base.specs.declared.kinds.Rule.{Rule}
 use Rattle.ceu_base.specs.declared.kinds.Rule.TheVariants.{N1, N4, N5}
 use Rattle.ceu_base.specs.declared.kinds.Pos.{Pos}
 use Rattle.ceu_tree.specs.declared.source.Class.{Class}
 use Rattle.ceu_tree.specs.declared.source.Class.TheVariants as class
-use Rattle.ceu_tree.specs.declared.source.Decl.{Decl}
 use Rattle.ceu_tree.specs.declared.source.Ident.{Ident}
 use Rattle.ceu_scopes.specs.declared.known.Known.{Known}
 use Rattle.ceu_scopes.specs.declared.scope.Border.{Border}
-use Rattle.ceu_scopes.specs.declared.scope.Border.TheVariants.{Plain, Async, Body}
+use Rattle.ceu_scopes.specs.declared.scope.Border.TheVariants.{Async, Body}
 use Rattle.ceu_scopes.specs.declared.scope.Scope.{Scope}
 use Rattle.ceu_scopes.specs.declared.walk.Walk.{Walk}
 use Rattle.ceu_scopes.specs.Shown.{found, entered, is_among, rest_of}

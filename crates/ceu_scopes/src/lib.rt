@@ -13,13 +13,15 @@ mod rules;
 mod scope;
 mod stack;
 mod statements;
+#[cfg(test)]
+mod tests;
 mod walk;
 
 use crate::scope::Border;
 use crate::walk::Walk;
 use ceu_base::CheckError;
 use ceu_tree::Tree;
-pub use known::{Known, Role, Scopes};
+pub use known::Scopes;
 use std::alloc::Global;
 
 /// The declarations of a program and the declaration of each use of a name.

@@ -1,4 +1,4 @@
-use Rattle.std.proofs.Common.{◌<◌, ◌≤◌, length, arith}
+use Rattle.std.proofs.Common.{arith}
 use Rattle.std.proofs.lemmas.Result.{err_from_is_err_and}
 use Rattle.ceu_scopes.specs.Names.{arm_walked}
 use Rattle.ceu_scopes.specs.Parts.{statement_walked, branch_walked, item_walked}

@@ -1,4 +1,4 @@
-use Rattle.std.proofs.Common.{◌<◌, ◌≤◌, length, arith}
+use Rattle.std.proofs.Common.{arith}
 use Rattle.std.proofs.lemmas.Result.{err_from_is_err_and}
 use Rattle.ceu_scopes.specs.Names.{name_listed}
 use Rattle.ceu_scopes.proofs.Each.{each_goes_on, each_refused, each_ended}

@@ -1,4 +1,4 @@
-use Rattle.std.proofs.Common.{◌≡◌, drop, None}
+use Rattle.std.proofs.Common.{◌≡◌, drop}
 use Rattle.ceu_scopes.specs.Names.{name_listed}
 use Rattle.ceu_scopes.specs.Walk.{each}
 use Rattle.ceu_scopes.proofs.walk.Walk.each_listed.Given as goal

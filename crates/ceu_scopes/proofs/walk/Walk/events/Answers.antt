@@ -1,4 +1,4 @@
-use Rattle.std.proofs.Common.{◌<◌, ◌≤◌, length, arith, None}
+use Rattle.std.proofs.Common.{arith, None}
 use Rattle.std.proofs.lemmas.Result.{err_from_is_err_and}
 use Rattle.ceu_scopes.specs.Names.{ident_declared}
 use Rattle.ceu_tree.specs.declared.source.Class.TheVariants.{Event}

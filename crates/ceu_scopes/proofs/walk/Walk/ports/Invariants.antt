@@ -1,4 +1,4 @@
-use Rattle.std.proofs.Common.{◌≡◌, drop, None}
+use Rattle.std.proofs.Common.{◌≡◌, drop}
 use Rattle.ceu_scopes.specs.Names.{port_declared}
 use Rattle.ceu_scopes.specs.Walk.{each}
 use Rattle.ceu_scopes.proofs.walk.Walk.ports.Given as goal
