@@ -17,7 +17,11 @@ fn tightness(node: &ExpNode) -> u8
     match node {
         ExpNode::As(_, _) => 0,
         ExpNode::Two(op, _, _) => level(*op),
-        ExpNode::Number(_) | ExpNode::Bool(_) | ExpNode::Var(_) | ExpNode::Alive(_) | ExpNode::One(_, _) => 10,
+        ExpNode::Number(_)
+        | ExpNode::Bool(_)
+        | ExpNode::Var(_)
+        | ExpNode::Alive(_)
+        | ExpNode::One(_, _) => 10,
     }
 }
 

@@ -49,7 +49,12 @@ fn put_start(out: &mut String, start: &Option<Spawn>) -> Result<(), AllocError>
     put_spawn(out, spawn)
 }
 
-pub fn put_alias(out: &mut String, code: &Ident, name: &Ident, start: &Option<Spawn>) -> Result<(), AllocError>
+pub fn put_alias(
+    out: &mut String,
+    code: &Ident,
+    name: &Ident,
+    start: &Option<Spawn>,
+) -> Result<(), AllocError>
     ensures { OnOk result (string_bytes out.new ≡ string_bytes out.old ++ (codes "var&? " ++ words.ident_text code.now ++ codes " " ++ words.ident_text name.now ++ spec.start_text start.now)) }
 {
     put(out, "var&? ")?;
@@ -114,7 +119,12 @@ fn put_listed_params(out: &mut String, params: &[Param]) -> Result<(), AllocErro
 
 /// The head of a code, up to its block.
 #[tactic(auto, unfolding(crate::specs::Statements::code_head))]
-pub fn put_code_head(out: &mut String, name: &Ident, params: &[Param], ty: Ty) -> Result<(), AllocError>
+pub fn put_code_head(
+    out: &mut String,
+    name: &Ident,
+    params: &[Param],
+    ty: Ty,
+) -> Result<(), AllocError>
     ensures { OnOk result (string_bytes out.new ≡ string_bytes out.old ++ spec.code_head name.now params.now ty) }
 {
     put_code_name(out, name)?;
@@ -183,7 +193,11 @@ fn put_answer(out: &mut String, value: &Option<Exp>) -> Result<(), AllocError>
     put_exp(out, e)
 }
 
-pub fn put_escape(out: &mut String, label: &Option<Ident>, value: &Option<Exp>) -> Result<(), AllocError>
+pub fn put_escape(
+    out: &mut String,
+    label: &Option<Ident>,
+    value: &Option<Exp>,
+) -> Result<(), AllocError>
     ensures { OnOk result (string_bytes out.new ≡ string_bytes out.old ++ (codes "escape" ++ spec.left_text label.now ++ spec.answer_text value.now)) }
 {
     put(out, "escape")?;
@@ -233,7 +247,13 @@ fn put_right_bracket(out: &mut String, is_open: bool) -> Result<(), AllocError>
 }
 
 #[tactic(auto, unfolding(crate::specs::Statements::interval_text))]
-fn put_interval(out: &mut String, open_a: bool, a: &Exp, b: &Exp, open_b: bool) -> Result<(), AllocError>
+fn put_interval(
+    out: &mut String,
+    open_a: bool,
+    a: &Exp,
+    b: &Exp,
+    open_b: bool,
+) -> Result<(), AllocError>
     ensures { OnOk result (string_bytes out.new ≡ string_bytes out.old ++ spec.interval_text open_a a.now b.now open_b) }
 {
     put_left_bracket(out, open_a)?;
@@ -245,7 +265,14 @@ fn put_interval(out: &mut String, open_a: bool, a: &Exp, b: &Exp, open_b: bool) 
 
 /// `loop` over a range, up to its block.
 #[tactic(auto, unfolding(crate::specs::Statements::range_head))]
-pub fn put_range_head(out: &mut String, name: &Ident, open_a: bool, a: &Exp, b: &Exp, open_b: bool) -> Result<(), AllocError>
+pub fn put_range_head(
+    out: &mut String,
+    name: &Ident,
+    open_a: bool,
+    a: &Exp,
+    b: &Exp,
+    open_b: bool,
+) -> Result<(), AllocError>
     ensures { OnOk result (string_bytes out.new ≡ string_bytes out.old ++ spec.range_head name.now open_a a.now b.now open_b) }
 {
     put(out, "loop ")?;
@@ -257,7 +284,11 @@ pub fn put_range_head(out: &mut String, name: &Ident, open_a: bool, a: &Exp, b: 
 
 /// `every`, up to its block.
 #[tactic(auto, unfolding(crate::specs::Statements::every_head))]
-pub fn put_every_head(out: &mut String, name: &Option<Ident>, target: &Target) -> Result<(), AllocError>
+pub fn put_every_head(
+    out: &mut String,
+    name: &Option<Ident>,
+    target: &Target,
+) -> Result<(), AllocError>
     ensures { OnOk result (string_bytes out.new ≡ string_bytes out.old ++ spec.every_head name.now target.now) }
 {
     put(out, "every ")?;

@@ -9,8 +9,11 @@ use itoa::Buffer;
 use std::alloc::AllocError;
 
 const HOUR: u64 = 3_600_000_000;
+
 const MINUTE: u64 = 60_000_000;
+
 const SECOND: u64 = 1_000_000;
+
 const MILLISECOND: u64 = 1_000;
 
 pub fn put(out: &mut String, text: &str) -> Result<(), AllocError>

@@ -5,8 +5,9 @@ ghost use Rattle.ceu_print.specs.Statements as spec;
 
 use crate::expressions::{put_await, put_exp, put_spawn};
 use crate::parts::{
-    put_alias, put_async_head, put_code_head, put_do_head, put_emit, put_escape, put_every_head, put_kill, put_loop_head, put_pool, put_ports,
-    put_range_head, put_target_head, put_vars_head, put_watching_head,
+    put_alias, put_async_head, put_code_head, put_do_head, put_emit, put_escape, put_every_head,
+    put_kill, put_loop_head, put_pool, put_ports, put_range_head, put_target_head, put_vars_head,
+    put_watching_head,
 };
 use crate::pieces::{put, put_ident};
 use crate::words::par_text;
@@ -162,7 +163,12 @@ fn put_stmt(alloc: Global, out: &mut String, margin: &str, stmt: &Stmt) -> Resul
 
 #[cycle(statement)]
 #[tactic(auto, using(crate::proofs::StatementTexts::texts, crate::proofs::StatementSizes::sizes))]
-fn put_items(alloc: Global, out: &mut String, margin: &str, items: &[Item]) -> Result<(), AllocError>
+fn put_items(
+    alloc: Global,
+    out: &mut String,
+    margin: &str,
+    items: &[Item],
+) -> Result<(), AllocError>
     ensures { OnOk result (string_bytes out.new ≡ string_bytes out.old ++ joined (codes ", ") (map (spec.item_text margin.now) items.now)) }
 {
     let [first, rest @ ..] = items else {
@@ -193,7 +199,12 @@ fn put_item(alloc: Global, out: &mut String, margin: &str, item: &Item) -> Resul
 
 #[cycle(statement)]
 #[tactic(auto, using(crate::proofs::StatementTexts::texts, crate::proofs::StatementSizes::sizes))]
-fn put_source(alloc: Global, out: &mut String, margin: &str, source: &Source) -> Result<(), AllocError>
+fn put_source(
+    alloc: Global,
+    out: &mut String,
+    margin: &str,
+    source: &Source,
+) -> Result<(), AllocError>
     ensures { OnOk result (string_bytes out.new ≡ string_bytes out.old ++ spec.source_text source.now margin.now) }
 {
     match source {
@@ -218,7 +229,14 @@ fn put_do(alloc: Global, out: &mut String, margin: &str, block: &Do) -> Result<(
 fn put_range(alloc: Global, out: &mut String, margin: &str, range: &Range) -> Result<(), AllocError>
     ensures { OnOk result (string_bytes out.new ≡ string_bytes out.old ++ spec.range_text range.now margin.now) }
 {
-    put_range_head(out, &range.name, range.open_a, &range.a, &range.b, range.open_b)?;
+    put_range_head(
+        out,
+        &range.name,
+        range.open_a,
+        &range.a,
+        &range.b,
+        range.open_b,
+    )?;
     put_body(alloc, out, margin, &range.body)
 }
 
@@ -247,7 +265,12 @@ fn put_block(alloc: Global, out: &mut String, margin: &str, block: &Block) -> Re
 /// The lines of a block.
 #[cycle(statement)]
 #[tactic(auto, using(crate::proofs::StatementTexts::texts, crate::proofs::StatementSizes::sizes))]
-pub fn put_lines(alloc: Global, out: &mut String, margin: &str, nodes: &[Node]) -> Result<(), AllocError>
+pub fn put_lines(
+    alloc: Global,
+    out: &mut String,
+    margin: &str,
+    nodes: &[Node],
+) -> Result<(), AllocError>
     ensures { OnOk result (string_bytes out.new ≡ string_bytes out.old ++ spec.lines_text margin.now nodes.now) }
 {
     let mut rest = nodes;
@@ -299,7 +322,12 @@ fn put_arm(alloc: Global, out: &mut String, margin: &str, arm: &Arm) -> Result<(
 
 #[cycle(statement)]
 #[tactic(auto, using(crate::proofs::StatementTexts::texts, crate::proofs::StatementSizes::sizes))]
-fn put_else(alloc: Global, out: &mut String, margin: &str, last: &Option<Block>) -> Result<(), AllocError>
+fn put_else(
+    alloc: Global,
+    out: &mut String,
+    margin: &str,
+    last: &Option<Block>,
+) -> Result<(), AllocError>
     ensures { OnOk result (string_bytes out.new ≡ string_bytes out.old ++ spec.else_text last.now margin.now) }
 {
     let Some(body) = last else {
@@ -312,7 +340,12 @@ fn put_else(alloc: Global, out: &mut String, margin: &str, last: &Option<Block>)
 // The branches of a par, and its `end`.
 #[cycle(statement)]
 #[tactic(auto, using(crate::proofs::StatementTexts::texts, crate::proofs::StatementSizes::sizes))]
-fn put_branches(alloc: Global, out: &mut String, margin: &str, branches: &[Block]) -> Result<(), AllocError>
+fn put_branches(
+    alloc: Global,
+    out: &mut String,
+    margin: &str,
+    branches: &[Block],
+) -> Result<(), AllocError>
     ensures { OnOk result (string_bytes out.new ≡ string_bytes out.old ++ (joined (codes "with") (map (spec.branch_text margin.now) branches.now) ++ codes "end")) }
 {
     let [first, rest @ ..] = branches else {
