@@ -15,6 +15,7 @@ use Rattle.ceu_base.specs.declared.kinds.Fault.TheVariants.{Overflow, DivZero, S
 use Rattle.ceu_tree.specs.Text.{shown}
 use Rattle.ceu_tree.specs.Needs.{memory}
 use Rattle.ceu_tree.specs.Proper.{is_proper}
+use Rattle.ceu_tree.specs.Legal.{is_legal}
 use Rattle.ceu_tree.specs.Costs.{cost, bounds}
 use Rattle.ceu_tree.specs.Run.{Waits, HasEnded, HasFaulted, world_of, status_of, run}
 use Rattle.ceu_tree.proofs.Build.{at, node, const, read, alive, one, two, cast, loc, arm, declared, block, port, event, coded, kernel, computed, measured, judged}
@@ -127,6 +128,10 @@ in_order_ends : status_of (run in_order 20000 (Input 0 (pos 0) ∷ [])) ≡ Wait
 unfolding in_order computed
 in_order_ends = refl
 
+in_order_legal : is_legal in_order (run in_order 20000 (Input 0 (pos 0) ∷ [])) ≡ true
+unfolding in_order computed judged
+in_order_legal = refl
+
 in_order_takes : memory false in_order ≡ 62
 unfolding in_order measured
 in_order_takes = refl
@@ -161,6 +166,10 @@ late_timer_ends : status_of (run late_timer 20000 (Advance 15000 ∷ [])) ≡ Wa
 unfolding late_timer computed
 late_timer_ends = refl
 
+late_timer_legal : is_legal late_timer (run late_timer 20000 (Advance 15000 ∷ [])) ≡ true
+unfolding late_timer computed judged
+late_timer_legal = refl
+
 late_timer_takes : memory false late_timer ≡ 47
 unfolding late_timer measured
 late_timer_takes = refl
@@ -194,6 +203,10 @@ early_timer_prints = refl
 early_timer_ends : status_of (run early_timer 20000 (Advance 9000 ∷ [])) ≡ Waits
 unfolding early_timer computed
 early_timer_ends = refl
+
+early_timer_legal : is_legal early_timer (run early_timer 20000 (Advance 9000 ∷ [])) ≡ true
+unfolding early_timer computed judged
+early_timer_legal = refl
 
 early_timer_takes : memory false early_timer ≡ 47
 unfolding early_timer measured

@@ -15,6 +15,7 @@ use Rattle.ceu_base.specs.declared.kinds.Fault.TheVariants.{Overflow, DivZero, S
 use Rattle.ceu_tree.specs.Text.{shown}
 use Rattle.ceu_tree.specs.Needs.{memory}
 use Rattle.ceu_tree.specs.Proper.{is_proper}
+use Rattle.ceu_tree.specs.Legal.{is_legal}
 use Rattle.ceu_tree.specs.Costs.{cost, bounds}
 use Rattle.ceu_tree.specs.Run.{Waits, HasEnded, HasFaulted, world_of, status_of, run}
 use Rattle.ceu_tree.proofs.Build.{at, node, const, read, alive, one, two, cast, loc, arm, declared, block, port, event, coded, kernel, computed, measured, judged}
@@ -93,6 +94,10 @@ finalizers_stand_ends : status_of (run finalizers_stand 20000 ([])) ≡ Waits
 unfolding finalizers_stand computed
 finalizers_stand_ends = refl
 
+finalizers_stand_legal : is_legal finalizers_stand (run finalizers_stand 20000 ([])) ≡ true
+unfolding finalizers_stand computed judged
+finalizers_stand_legal = refl
+
 finalizers_stand_takes : memory false finalizers_stand ≡ 119
 unfolding finalizers_stand measured
 finalizers_stand_takes = refl
@@ -136,6 +141,10 @@ pool_full_prints = refl
 pool_full_ends : status_of (run pool_full 20000 (Advance 10000 ∷ [])) ≡ Waits
 unfolding pool_full computed
 pool_full_ends = refl
+
+pool_full_legal : is_legal pool_full (run pool_full 20000 (Advance 10000 ∷ [])) ≡ true
+unfolding pool_full computed judged
+pool_full_legal = refl
 
 pool_full_takes : memory false pool_full ≡ 107
 unfolding pool_full measured
@@ -187,6 +196,10 @@ killed_place_prints = refl
 killed_place_ends : status_of (run killed_place 20000 ([])) ≡ Waits
 unfolding killed_place computed
 killed_place_ends = refl
+
+killed_place_legal : is_legal killed_place (run killed_place 20000 ([])) ≡ true
+unfolding killed_place computed judged
+killed_place_legal = refl
 
 killed_place_takes : memory false killed_place ≡ 118
 unfolding killed_place measured

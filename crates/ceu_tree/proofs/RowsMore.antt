@@ -15,6 +15,7 @@ use Rattle.ceu_base.specs.declared.kinds.Fault.TheVariants.{Overflow, DivZero, S
 use Rattle.ceu_tree.specs.Text.{shown}
 use Rattle.ceu_tree.specs.Needs.{memory}
 use Rattle.ceu_tree.specs.Proper.{is_proper}
+use Rattle.ceu_tree.specs.Legal.{is_legal}
 use Rattle.ceu_tree.specs.Costs.{cost, bounds}
 use Rattle.ceu_tree.specs.Run.{Waits, HasEnded, HasFaulted, world_of, status_of, run}
 use Rattle.ceu_tree.proofs.Build.{at, node, const, read, alive, one, two, cast, loc, arm, declared, block, port, event, coded, kernel, computed, measured, judged}

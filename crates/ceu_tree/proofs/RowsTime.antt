@@ -15,6 +15,7 @@ use Rattle.ceu_base.specs.declared.kinds.Fault.TheVariants.{Overflow, DivZero, S
 use Rattle.ceu_tree.specs.Text.{shown}
 use Rattle.ceu_tree.specs.Needs.{memory}
 use Rattle.ceu_tree.specs.Proper.{is_proper}
+use Rattle.ceu_tree.specs.Legal.{is_legal}
 use Rattle.ceu_tree.specs.Costs.{cost, bounds}
 use Rattle.ceu_tree.specs.Run.{Waits, HasEnded, HasFaulted, world_of, status_of, run}
 use Rattle.ceu_tree.proofs.Build.{at, node, const, read, alive, one, two, cast, loc, arm, declared, block, port, event, coded, kernel, computed, measured, judged}
@@ -54,6 +55,10 @@ async_rounds_prints = refl
 async_rounds_ends : status_of (run async_rounds 20000 (Idle 2 ∷ Input 0 (pos 0) ∷ Idle 2 ∷ Idle 5 ∷ [])) ≡ Waits
 unfolding async_rounds computed
 async_rounds_ends = refl
+
+async_rounds_legal : is_legal async_rounds (run async_rounds 20000 (Idle 2 ∷ Input 0 (pos 0) ∷ Idle 2 ∷ Idle 5 ∷ [])) ≡ true
+unfolding async_rounds computed judged
+async_rounds_legal = refl
 
 async_rounds_takes : memory false async_rounds ≡ 94
 unfolding async_rounds measured
@@ -98,6 +103,10 @@ async_ends_prints = refl
 async_ends_ends : status_of (run async_ends 20000 (Idle 4 ∷ Input 0 (pos 0) ∷ [])) ≡ Waits
 unfolding async_ends computed
 async_ends_ends = refl
+
+async_ends_legal : is_legal async_ends (run async_ends 20000 (Idle 4 ∷ Input 0 (pos 0) ∷ [])) ≡ true
+unfolding async_ends computed judged
+async_ends_legal = refl
 
 async_ends_takes : memory false async_ends ≡ 94
 unfolding async_ends measured
@@ -156,6 +165,10 @@ every_value_prints = refl
 every_value_ends : status_of (run every_value 20000 (Input 0 (pos 1) ∷ Input 0 (pos 2) ∷ [])) ≡ Waits
 unfolding every_value computed
 every_value_ends = refl
+
+every_value_legal : is_legal every_value (run every_value 20000 (Input 0 (pos 1) ∷ Input 0 (pos 2) ∷ [])) ≡ true
+unfolding every_value computed judged
+every_value_legal = refl
 
 every_value_takes : memory false every_value ≡ 47
 unfolding every_value measured
