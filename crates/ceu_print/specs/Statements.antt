@@ -1,10 +1,12 @@
 -- The printed text of statements: one a line, four blanks for each open block.
 use Rattle.std.specs.Prelude.{ℕ, ◌++◌, Bool, true, false, List, [], ◌∷◌, Option, Some, None, if◌then◌else◌, map, codes, decimal}
+use Rattle.ceu_base.specs.declared.kinds.Ty.{Ty}
 use Rattle.ceu_tree.specs.declared.source.Ident.{Ident}
 use Rattle.ceu_tree.specs.declared.source.Param.{Param}
 use Rattle.ceu_tree.specs.declared.source.Spawn.{Spawn}
 use Rattle.ceu_tree.specs.declared.source.Label.{Label}
 use Rattle.ceu_tree.specs.declared.source.Label.TheVariants as label
+use Rattle.ceu_tree.specs.declared.source.Target.{Target}
 use Rattle.ceu_tree.specs.declared.source.Exp.{Exp}
 use Rattle.ceu_tree.specs.declared.source.Source as source
 use Rattle.ceu_tree.specs.declared.source.Source.{Source}
@@ -58,9 +60,9 @@ abbrev pub limit_text : Option ℕ → Text
 limit_text None = []
 limit_text (Some n) = codes "/" ++ decimal n
 
-abbrev pub every_text : Option Ident → Text
-every_text None = codes "every "
-every_text (Some x) = codes "every " ++ ident_text x ++ codes " in "
+abbrev pub received_text : Option Ident → Text
+received_text None = []
+received_text (Some x) = ident_text x ++ codes " in "
 
 abbrev pub shared_text : List Ident → Text
 shared_text [] = []
@@ -72,30 +74,78 @@ left_bracket is_open = if is_open then codes "]" else codes "["
 abbrev pub right_bracket : (is_open : Bool) → Text
 right_bracket is_open = if is_open then codes "[" else codes "]"
 
+-- ---- heads, up to what may hold a block
+
+unfoldable pub vars_head : Ty → Text
+vars_head t = codes "var " ++ type_text t ++ codes " "
+
+unfoldable pub target_head : Ident → Text
+target_head x = ident_text x ++ codes " = "
+
+unfoldable pub code_name : Ident → Text
+code_name x = codes "code/await " ++ ident_text x
+
+unfoldable pub listed_params : List Param → Text
+listed_params ps = codes "(" ++ params_text ps ++ codes ")"
+
+unfoldable pub code_head : Ident → List Param → Ty → Text
+code_head x ps t = code_name x ++ listed_params ps ++ codes " -> " ++ type_text t ++ codes " do"
+
+unfoldable pub do_head : Label → Text
+do_head l = codes "do" ++ label_text l
+
+unfoldable pub loop_head : Option ℕ → Text
+loop_head n = codes "loop" ++ limit_text n ++ codes " do"
+
+-- each bracket touches its number
+unfoldable pub interval_text : (open_a : Bool) → Exp → Exp → (open_b : Bool) → Text
+interval_text open_a a b open_b = left_bracket open_a ++ exp_text a ++ codes " -> " ++ exp_text b ++ right_bracket open_b
+
+unfoldable pub range_head : Ident → (open_a : Bool) → Exp → Exp → (open_b : Bool) → Text
+range_head x open_a a b open_b = codes "loop " ++ ident_text x ++ codes " in " ++ interval_text open_a a b open_b ++ codes " do"
+
+unfoldable pub every_head : Option Ident → Target → Text
+every_head x t = codes "every " ++ received_text x ++ target_text t ++ codes " do"
+
+unfoldable pub watching_head : Target → Text
+watching_head t = codes "watching " ++ target_text t ++ codes " do"
+
+unfoldable pub async_head : List Ident → Text
+async_head xs = codes "async" ++ shared_text xs ++ codes " do"
+
+-- ---- lines
+
+unfoldable pub line_end : (ends : Bool) → Text
+line_end ends = if ends then codes "\n" else codes ";\n"
+
 -- a line of a block, where these blanks stand before each of its lines
 abbrev pub line_text : (margin : Text) → Text → Bool → Text
-line_text margin text ends = margin ++ text ++ (if ends then codes "\n" else codes ";\n")
+line_text margin text ends = margin ++ text ++ line_end ends
 
 -- the lines of a block, up to the word that ends it
 abbrev pub inner_text : (margin : Text) → List Text → Text
 inner_text margin lines = codes "\n" ++ all lines ++ margin
 
-abbrev pub deeper : Text → Text
+unfoldable pub deeper : Text → Text
 deeper margin = margin ++ codes "    "
 
 -- ---- whether a statement's last token is `end`
 
+abbrev pub is_do : Source → Bool
+is_do (source.Done d) = true
+is_do _ = false
+
 abbrev pub is_done : Option Source → Bool
-is_done (Some (source.Done d)) = true
-is_done _ = false
+is_done None = false
+is_done (Some s) = is_do s
 
 abbrev pub last_is_done : Bool → List Item → Bool
 last_is_done done [] = done
 last_is_done done (i ∷ is) = last_is_done (is_done i.value) is
 
 abbrev pub held_is_done : Held-Item-value → Bool
-held_is_done (Item-value-Some' (source.Done d)) = true
-held_is_done _ = false
+held_is_done Item-value-None' = false
+held_is_done (Item-value-Some' s) = is_do s
 
 unfoldable pub row_is_done : {n : _} → Bool → Row_of-Item n → Bool
 row_is_done done end_of-Item = done
@@ -103,7 +153,7 @@ row_is_done done (more_of-Item x v rest) = row_is_done (held_is_done v) rest
 
 unfoldable pub ends_in_end : Stmt → Bool
 ends_in_end (Vars' t _ items) = row_is_done false items
-ends_in_end (stmt.Assign x s) = is_done (Some s)
+ends_in_end (stmt.Assign x s) = is_do s
 ends_in_end (stmt.Code x ps t b) = true
 ends_in_end (stmt.Do d) = true
 ends_in_end (stmt.Finalize b) = true
@@ -125,29 +175,28 @@ unfoldable mutual
   stmt_text stmt.Nothing m = codes "nothing"
   stmt_text stmt.Break m = codes "break"
   stmt_text stmt.Continue m = codes "continue"
-  stmt_text (Vars' t _ items) m = codes "var " ++ type_text t ++ codes " " ++ joined (codes ", ") (item_texts items m)
+  stmt_text (Vars' t _ items) m = vars_head t ++ joined (codes ", ") (item_texts items m)
   stmt_text (stmt.AliasDecl c x s) m = codes "var&? " ++ ident_text c ++ codes " " ++ ident_text x ++ start_text s
   stmt_text (stmt.Events t xs) m = codes "event " ++ type_text t ++ codes " " ++ names_text xs
   stmt_text (stmt.Inputs t xs) m = codes "input " ++ type_text t ++ codes " " ++ names_text xs
   stmt_text (stmt.Outputs t xs) m = codes "output " ++ type_text t ++ codes " " ++ names_text xs
   stmt_text (stmt.Pool n c x) m = codes "pool[" ++ decimal n ++ codes "] " ++ ident_text c ++ codes " " ++ ident_text x
-  stmt_text (stmt.Code x ps t b) m =
-      codes "code/await " ++ ident_text x ++ codes "(" ++ params_text ps ++ codes ") -> " ++ type_text t ++ codes " do" ++ block_text b m ++ codes "end"
-  stmt_text (stmt.Assign x s) m = ident_text x ++ codes " = " ++ source_text s m
+  stmt_text (stmt.Code x ps t b) m = code_head x ps t ++ body_text b m
+  stmt_text (stmt.Assign x s) m = target_head x ++ source_text s m
   stmt_text (stmt.Emit x e) m = codes "emit " ++ ident_text x ++ emitted_text e
   stmt_text (stmt.Await a) m = await_text a
   stmt_text (stmt.Spawn s) m = spawn_text s
   stmt_text (stmt.Kill x) m = codes "kill " ++ ident_text x
   stmt_text (stmt.Escape l e) m = codes "escape" ++ left_text l ++ answer_text e
   stmt_text (stmt.Do d) m = do_text d m
-  stmt_text (stmt.Finalize b) m = codes "do finalize with" ++ block_text b m ++ codes "end"
-  stmt_text (If' _ arms last) m = joined (codes "else/") (arm_texts arms m) ++ last_text last m ++ codes "end"
-  stmt_text (stmt.Loop n b) m = codes "loop" ++ limit_text n ++ codes " do" ++ block_text b m ++ codes "end"
+  stmt_text (stmt.Finalize b) m = codes "do finalize with" ++ body_text b m
+  stmt_text (If' _ arms last) m = joined (codes "else/") (arm_texts arms m) ++ last_text last m
+  stmt_text (stmt.Loop n b) m = loop_head n ++ body_text b m
   stmt_text (stmt.Range r) m = range_text r m
-  stmt_text (stmt.Every x t b) m = every_text x ++ target_text t ++ codes " do" ++ block_text b m ++ codes "end"
-  stmt_text (stmt.Watching t b) m = codes "watching " ++ target_text t ++ codes " do" ++ block_text b m ++ codes "end"
-  stmt_text (Par' k _ bs) m = par_text k ++ joined (codes "with") (block_texts bs m) ++ codes "end"
-  stmt_text (stmt.Async xs b) m = codes "async" ++ shared_text xs ++ codes " do" ++ block_text b m ++ codes "end"
+  stmt_text (stmt.Every x t b) m = every_head x t ++ body_text b m
+  stmt_text (stmt.Watching t b) m = watching_head t ++ body_text b m
+  stmt_text (Par' k _ bs) m = par_text k ++ (joined (codes "with") (block_texts bs m) ++ codes "end")
+  stmt_text (stmt.Async xs b) m = async_head xs ++ body_text b m
 
   pub source_text : Source → (margin : Text) → Text
   source_text (source.Value e) m = exp_text e
@@ -160,7 +209,11 @@ unfoldable mutual
   value_text (Item-value-Some' s) m = codes " = " ++ source_text s m
 
   pub do_text : Do → (margin : Text) → Text
-  do_text (Do' l b) m = codes "do" ++ label_text l ++ block_text b m ++ codes "end"
+  do_text (Do' l b) m = do_head l ++ body_text b m
+
+  -- a block and its `end`
+  pub body_text : Block → (margin : Text) → Text
+  body_text (Block' _ list) m = inner_text m (line_texts list (deeper m)) ++ codes "end"
 
   pub block_text : Block → (margin : Text) → Text
   block_text (Block' _ list) m = inner_text m (line_texts list (deeper m))
@@ -169,13 +222,11 @@ unfoldable mutual
   arm_text (Arm' c b) m = codes "if " ++ exp_text c ++ codes " then" ++ block_text b m
 
   pub last_text : Held-Stmt-If-1 → (margin : Text) → Text
-  last_text Stmt-If-1-None' m = []
-  last_text (Stmt-If-1-Some' b) m = codes "else" ++ block_text b m
+  last_text Stmt-If-1-None' m = codes "end"
+  last_text (Stmt-If-1-Some' b) m = codes "else" ++ body_text b m
 
   pub range_text : Range → (margin : Text) → Text
-  range_text (Range' x open_a a b open_b body) m =
-      codes "loop " ++ ident_text x ++ codes " in " ++ left_bracket open_a ++ exp_text a ++ codes " -> " ++ exp_text b ++ right_bracket open_b
-      ++ codes " do" ++ block_text body m ++ codes "end"
+  range_text (Range' x open_a a b open_b body) m = range_head x open_a a b open_b ++ body_text body m
 
   pub item_texts : {n : _} → Row_of-Item n → (margin : Text) → List Text
   item_texts end_of-Item m = []
@@ -202,9 +253,15 @@ if_value_text (Some s) m = codes " = " ++ source_text s m
 abbrev pub item_text : (margin : Text) → Item → Text
 item_text m i = ident_text i.name ++ if_value_text i.value m
 
+abbrev pub arm_line : (margin : Text) → Arm → Text
+arm_line m a = arm_text a m
+
+abbrev pub branch_text : (margin : Text) → Block → Text
+branch_text m b = block_text b m
+
 abbrev pub else_text : Option Block → (margin : Text) → Text
-else_text None m = []
-else_text (Some b) m = codes "else" ++ block_text b m
+else_text None m = codes "end"
+else_text (Some b) m = codes "else" ++ body_text b m
 
 abbrev pub node_line : (margin : Text) → Node → Text
 node_line m n = line_text m (stmt_text n.stmt m) (ends_in_end n.stmt)
