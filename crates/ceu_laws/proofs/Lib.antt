@@ -5,3 +5,4 @@ pub mod LeafBalance
 pub mod StepBalance
 pub mod RunBalance
 pub mod StepLaws
+pub mod Order

@@ -11,8 +11,8 @@ use Rattle.ceu_tree.specs.World.{World}
 use Rattle.ceu_tree.specs.Wake.{each_leaf, leaves, runs_at, by_input, later, by_time, least_time, Unserved, unserved, new_round}
 use Rattle.ceu_tree.specs.Around.{Outcome, Goes, Rests, Raises, Fails, Past, Registers, AtBlockEnd, AtLoopHead, Ends, Leaves}
 use Rattle.ceu_tree.specs.Step.{stepped}
-use Rattle.ceu_tree.specs.Run.{Config, Turning, Between, Waiting, Ended, Faulted, is_reacting, next, steps, reacts, input, advance, is_again, Served, Unfinished, Turned, Done, Failed, serve, serve_first, after_serving, served, idle_turn, idle_turns, done, all_done, booted, run}
-use Rattle.ceu_laws.specs.Steps.{ReactionsStand, RunsStand}
+use Rattle.ceu_tree.specs.Run.{Config, Turning, Between, Waiting, Ended, Faulted, is_reacting, next, steps, reacts, input, advance, is_again, Served, Unfinished, Turned, Done, Failed, serve, serve_first, after_serving, served, idle_turn, idle_turns, done, all_done, booted, run, world_of, status_of}
+use Rattle.ceu_laws.specs.Steps.{ReactionsStand, RunsStand, OneOutcome}
 
 -- an async's turn that is cut off
 abbrev is_cut : Served → Bool
@@ -208,3 +208,12 @@ pub runs_stand : RunsStand
 unfolding run
 runs_stand K n k xs h e =
     linked K n k h (steps K n (booted K)) (steps K k (booted K)) (all_done K n xs) (all_done K k xs) (steps_stand K n k (booted K) h) (all_stay K n xs) (all_stand K n k h xs) e
+
+-- two runs of one list of commands that are over are one
+one_config : (K : Kernel) (xs : List Command) (n k : ℕ) → is_reacting (run K n xs) ≡ false → is_reacting (run K k xs) ≡ false → run K n xs ≡ run K k xs
+one_config K xs n k a b = sym (runs_stand K n (n + k) xs (omega arith) a) ∙ runs_stand K k (n + k) xs (omega arith) b
+
+pub one_outcome : OneOutcome
+one_outcome K xs ms ns s t a b =
+    let e = one_config K xs a.bound b.bound a.over b.over in
+    record { 0 = sym a.marks_are ∙ ap (λ c. (world_of c).marks) e ∙ b.marks_are; 1 = sym a.status_is ∙ ap status_of e ∙ b.status_is }

@@ -1,2 +1,3 @@
 pub mod Finalizers
 pub mod Steps
+pub mod Order

@@ -2,7 +2,8 @@
 #![tactic(auto)]
 
 ghost use Rattle.ceu_laws.specs.Finalizers.{FinalizersBalance};
-ghost use Rattle.ceu_laws.specs.Steps.{ReactionsStand, RunsStand};
+ghost use Rattle.ceu_laws.specs.Order.{EventWakes, FirstRuns, FirstServed, InputWakes};
+ghost use Rattle.ceu_laws.specs.Steps.{OneOutcome, ReactionsStand, RunsStand};
 
 /// In every run in which no finalizer faulted, after any number of steps, the finalizer at a position was registered as often as it
 /// has run and stands registered. None stands once the program has ended or faulted.
@@ -18,4 +19,29 @@ pub fn reactions_stand()
 /// So too of a whole run.
 pub fn runs_stand()
     ensures { RunsStand }
+{}
+
+/// A run has at most one outcome: its marks and its status.
+pub fn one_outcome()
+    ensures { OneOutcome }
+{}
+
+/// The turn goes to the first leaf in lexical order that can run at the top level.
+pub fn first_runs()
+    ensures { FirstRuns }
+{}
+
+/// An idle turn serves the first async in lexical order that wasn't served in its round.
+pub fn first_served()
+    ensures { FirstServed }
+{}
+
+/// An emission changes exactly the leaves that wait for its event.
+pub fn event_wakes()
+    ensures { EventWakes }
+{}
+
+/// An input changes exactly the leaves that wait for it.
+pub fn input_wakes()
+    ensures { InputWakes }
 {}

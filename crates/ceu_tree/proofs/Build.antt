@@ -34,6 +34,7 @@ use Rattle.ceu_tree.specs.Typing.{node_typed, node_open}
 use Rattle.ceu_tree.specs.Numbering.{is_numbered, stmt_nodes, stmt_slots}
 use Rattle.ceu_tree.specs.Mentions.{stmt_names, node_names}
 use Rattle.ceu_tree.specs.Proper.{is_proper, stmt_ok}
+use Rattle.ceu_tree.specs.Legal.{stands, seats, open_slots, block_stands}
 use denote.Hole.Carrier
 
 abbrev pub at : ℕ → ℕ → Pos
@@ -95,7 +96,7 @@ unfoldable pub measured : ℕ
 unfolding memory gates slots stmt_need stmt_gates nodes_finalizers depth stmt_depth node_depth quick bounds emissions enter stay woken uses stands_waiting is_calm block roll-KBlock out-KBlock out-KStmt Carrier.out Carrier.roll Carrier.shown Carrier.hidden kernel_block.hidden-the_row-KNode-2 kernel_block.hidden-the_row-KBlock-1 kernel_block.hidden-the_row-KArm-0 expression.hidden-the_row-KExp-0
 measured = 0
 
--- what it is computed with whether a kernel is proper
+-- what it is computed with whether a kernel is proper and a configuration legal
 unfoldable pub judged : ℕ
-unfolding is_proper stmt_ok is_numbered stmt_nodes stmt_slots stmt_names node_names node_typed node_open block roll-KBlock out-KBlock out-KStmt Carrier.out Carrier.roll Carrier.shown Carrier.hidden kernel_block.hidden-the_row-KNode-2 kernel_block.shown-the_row-KNode-2 kernel_block.hidden-the_row-KBlock-1 kernel_block.hidden-the_row-KArm-0 expression.hidden-the_row-KExp-0
+unfolding stands seats open_slots block_stands is_proper stmt_ok is_numbered stmt_nodes stmt_slots stmt_names node_names node_typed node_open block roll-KBlock out-KBlock out-KStmt Carrier.out Carrier.roll Carrier.shown Carrier.hidden kernel_block.hidden-the_row-KNode-2 kernel_block.shown-the_row-KNode-2 kernel_block.hidden-the_row-KBlock-1 kernel_block.hidden-the_row-KArm-0 expression.hidden-the_row-KExp-0
 judged = 0

@@ -1,23 +1,21 @@
 -- Programs whose runs and numbers are computed: one trail, parallel trails, timers and events.
-use Rattle.std.proofs.Common.{◌≡◌, refl, ℕ, ℤ, pos, negsuc, true, false, List, [], ◌∷◌, ◌++◌, Some, None, codes}
+use Rattle.std.proofs.Common.{◌≡◌, refl, pos, true, false, [], ◌∷◌, Some, None, codes}
 use Rattle.ceu_base.specs.declared.kinds.Ty.TheVariants as ty
-use Rattle.ceu_base.specs.declared.kinds.Op1.TheVariants as op1
-use Rattle.ceu_base.specs.declared.kinds.Op2.TheVariants as op2
-use Rattle.ceu_tree.specs.declared.command.Command.TheVariants.{Input, Advance, Idle}
+use Rattle.ceu_tree.specs.declared.command.Command.TheVariants.{Input, Advance}
 use Rattle.ceu_tree.specs.declared.kernel.Kernel.{Kernel}
 use Rattle.ceu_tree.specs.declared.kernel.ParKind.TheVariants as par
 use Rattle.ceu_tree.specs.declared.kernel.Unit.TheVariants as unit
 use Rattle.ceu_tree.specs.declared.kernel.KKind.TheVariants as kind
 use Rattle.ceu_tree.specs.declared.kernel.KLoop.TheVariants as turns
 use Rattle.ceu_tree.specs.declared.kernel.KStmt as k
-use Rattle.ceu_base.specs.declared.kinds.Mark.TheVariants.{Output, Resume, Push, Pop, Registered, Ran, Spawned, Full}
-use Rattle.ceu_base.specs.declared.kinds.Fault.TheVariants.{Overflow, DivZero, Shift, LoopLimit, SpawnCount}
+use Rattle.ceu_base.specs.declared.kinds.Mark.TheVariants.{Output, Resume, Push}
 use Rattle.ceu_tree.specs.Text.{shown}
 use Rattle.ceu_tree.specs.Needs.{memory}
 use Rattle.ceu_tree.specs.Proper.{is_proper}
+use Rattle.ceu_tree.specs.Legal.{is_legal}
 use Rattle.ceu_tree.specs.Costs.{cost, bounds}
-use Rattle.ceu_tree.specs.Run.{Waits, HasEnded, HasFaulted, world_of, status_of, run}
-use Rattle.ceu_tree.proofs.Build.{at, node, const, read, alive, one, two, cast, loc, arm, declared, block, port, event, coded, kernel, computed, measured, judged}
+use Rattle.ceu_tree.specs.Run.{Waits, HasEnded, world_of, status_of, run}
+use Rattle.ceu_tree.proofs.Build.{node, const, read, loc, declared, block, port, event, kernel, computed, measured, judged}
 
 -- escape 1;
 escapes : Kernel
@@ -45,7 +43,7 @@ escapes_costs : bounds escapes ≡ cost 1 0
 unfolding escapes measured
 escapes_costs = refl
 
--- 
+--
 empty : Kernel
 unfolding block
 empty =
@@ -80,8 +78,8 @@ echo : Kernel
 unfolding block
 echo =
     kernel (block 0 ((declared 0 (kind.Var ty.S32)) ∷ []) (node 1 3 1 (k.AwaitIn 0 (Some (loc false 0 ty.S32))) ∷ node 2 4 1 (k.Out 0 (Some (read
-        ty.S32 4 8 (loc false 0 ty.S32)))) ∷ node 3 5 1 (k.Escape 0 (Some (read ty.S32 5 8 (loc false 0 ty.S32)))) ∷ [])) ([]) ((port ty.S32 (codes
-        "A")) ∷ []) ((port ty.S32 (codes "O")) ∷ []) ([])
+    ty.S32 4 8 (loc false 0 ty.S32)))) ∷ node 3 5 1 (k.Escape 0 (Some (read ty.S32 5 8 (loc false 0 ty.S32)))) ∷ [])) ([]) ((port ty.S32 (codes
+    "A")) ∷ []) ((port ty.S32 (codes "O")) ∷ []) ([])
 
 echo_proper : is_proper echo ≡ true
 unfolding echo judged
@@ -111,9 +109,9 @@ in_order : Kernel
 unfolding block
 in_order =
     kernel (block 0 ([]) (node 1 2 1 (k.Par par.Never 0 ((block 2 ([]) (node 3 2 8 (k.Loop turns.Free (block 4 ([]) (node 5 2 8 (k.AwaitIn 0 None) ∷
-        node 6 2 19 (k.Out 0 (Some (const ty.S32 2 26 (pos 2)))) ∷ []))) ∷ [])) ∷ (block 7 ([]) (node 8 3 6 (k.Loop turns.Free (block 9 ([]) (node 10
-        3 6 (k.AwaitIn 0 None) ∷ node 11 3 17 (k.Out 0 (Some (const ty.S32 3 24 (pos 1)))) ∷ []))) ∷ [])) ∷ [])) ∷ [])) ([]) ((port ty.None (codes
-        "A")) ∷ []) ((port ty.S32 (codes "O")) ∷ []) ([])
+    node 6 2 19 (k.Out 0 (Some (const ty.S32 2 26 (pos 2)))) ∷ []))) ∷ [])) ∷ (block 7 ([]) (node 8 3 6 (k.Loop turns.Free (block 9 ([]) (node 10
+    3 6 (k.AwaitIn 0 None) ∷ node 11 3 17 (k.Out 0 (Some (const ty.S32 3 24 (pos 1)))) ∷ []))) ∷ [])) ∷ [])) ∷ [])) ([]) ((port ty.None (codes
+    "A")) ∷ []) ((port ty.S32 (codes "O")) ∷ []) ([])
 
 in_order_proper : is_proper in_order ≡ true
 unfolding in_order judged
@@ -126,6 +124,10 @@ in_order_prints = refl
 in_order_ends : status_of (run in_order 20000 (Input 0 (pos 0) ∷ [])) ≡ Waits
 unfolding in_order computed
 in_order_ends = refl
+
+in_order_legal : is_legal in_order (run in_order 20000 (Input 0 (pos 0) ∷ [])) ≡ true
+unfolding in_order computed judged
+in_order_legal = refl
 
 in_order_takes : memory false in_order ≡ 62
 unfolding in_order measured
@@ -145,9 +147,9 @@ late_timer : Kernel
 unfolding block
 late_timer =
     kernel (block 0 ((declared 0 (kind.Var ty.S32)) ∷ []) (node 1 2 1 (k.AwaitTime (const ty.S64 2 1 (pos 10000)) unit.Us (Some (loc false 0 ty.S32)))
-        ∷ node 2 3 1 (k.Out 0 (Some (read ty.S32 3 8 (loc false 0 ty.S32)))) ∷ node 3 4 1 (k.AwaitTime (const ty.S64 4 1 (pos 1000)) unit.Us (Some
-        (loc false 0 ty.S32))) ∷ node 4 5 1 (k.Out 0 (Some (read ty.S32 5 8 (loc false 0 ty.S32)))) ∷ node 5 6 1 k.Forever ∷ [])) ([]) ([]) ((port
-        ty.S32 (codes "O")) ∷ []) ([])
+    ∷ node 2 3 1 (k.Out 0 (Some (read ty.S32 3 8 (loc false 0 ty.S32)))) ∷ node 3 4 1 (k.AwaitTime (const ty.S64 4 1 (pos 1000)) unit.Us (Some
+    (loc false 0 ty.S32))) ∷ node 4 5 1 (k.Out 0 (Some (read ty.S32 5 8 (loc false 0 ty.S32)))) ∷ node 5 6 1 k.Forever ∷ [])) ([]) ([]) ((port
+    ty.S32 (codes "O")) ∷ []) ([])
 
 late_timer_proper : is_proper late_timer ≡ true
 unfolding late_timer judged
@@ -160,6 +162,10 @@ late_timer_prints = refl
 late_timer_ends : status_of (run late_timer 20000 (Advance 15000 ∷ [])) ≡ Waits
 unfolding late_timer computed
 late_timer_ends = refl
+
+late_timer_legal : is_legal late_timer (run late_timer 20000 (Advance 15000 ∷ [])) ≡ true
+unfolding late_timer computed judged
+late_timer_legal = refl
 
 late_timer_takes : memory false late_timer ≡ 47
 unfolding late_timer measured
@@ -179,9 +185,9 @@ early_timer : Kernel
 unfolding block
 early_timer =
     kernel (block 0 ((declared 0 (kind.Var ty.S32)) ∷ []) (node 1 2 1 (k.AwaitTime (const ty.S64 2 1 (pos 10000)) unit.Us (Some (loc false 0 ty.S32)))
-        ∷ node 2 3 1 (k.Out 0 (Some (read ty.S32 3 8 (loc false 0 ty.S32)))) ∷ node 3 4 1 (k.AwaitTime (const ty.S64 4 1 (pos 1000)) unit.Us (Some
-        (loc false 0 ty.S32))) ∷ node 4 5 1 (k.Out 0 (Some (read ty.S32 5 8 (loc false 0 ty.S32)))) ∷ node 5 6 1 k.Forever ∷ [])) ([]) ([]) ((port
-        ty.S32 (codes "O")) ∷ []) ([])
+    ∷ node 2 3 1 (k.Out 0 (Some (read ty.S32 3 8 (loc false 0 ty.S32)))) ∷ node 3 4 1 (k.AwaitTime (const ty.S64 4 1 (pos 1000)) unit.Us (Some
+    (loc false 0 ty.S32))) ∷ node 4 5 1 (k.Out 0 (Some (read ty.S32 5 8 (loc false 0 ty.S32)))) ∷ node 5 6 1 k.Forever ∷ [])) ([]) ([]) ((port
+    ty.S32 (codes "O")) ∷ []) ([])
 
 early_timer_proper : is_proper early_timer ≡ true
 unfolding early_timer judged
@@ -194,6 +200,10 @@ early_timer_prints = refl
 early_timer_ends : status_of (run early_timer 20000 (Advance 9000 ∷ [])) ≡ Waits
 unfolding early_timer computed
 early_timer_ends = refl
+
+early_timer_legal : is_legal early_timer (run early_timer 20000 (Advance 9000 ∷ [])) ≡ true
+unfolding early_timer computed judged
+early_timer_legal = refl
 
 early_timer_takes : memory false early_timer ≡ 47
 unfolding early_timer measured
@@ -214,9 +224,9 @@ same_time : Kernel
 unfolding block
 same_time =
     kernel (block 0 ([]) (node 1 2 1 (k.Par par.And 0 ((block 2 ([]) (node 3 3 5 (k.AwaitTime (const ty.S64 3 5 (pos 5000)) unit.Us None) ∷ node 4 3
-        16 (k.AwaitTime (const ty.S64 3 16 (pos 5000)) unit.Us None) ∷ node 5 3 27 (k.Out 0 (Some (const ty.S32 3 34 (pos 1)))) ∷ [])) ∷ (block 6 ([])
-        (node 7 5 5 (k.AwaitTime (const ty.S64 5 5 (pos 10000)) unit.Us None) ∷ node 8 5 17 (k.Out 0 (Some (const ty.S32 5 24 (pos 2)))) ∷ [])) ∷ []))
-        ∷ node 9 7 1 (k.Escape 0 (Some (const ty.S32 7 8 (pos 0)))) ∷ [])) ([]) ([]) ((port ty.S32 (codes "O")) ∷ []) ([])
+    16 (k.AwaitTime (const ty.S64 3 16 (pos 5000)) unit.Us None) ∷ node 5 3 27 (k.Out 0 (Some (const ty.S32 3 34 (pos 1)))) ∷ [])) ∷ (block 6 ([])
+    (node 7 5 5 (k.AwaitTime (const ty.S64 5 5 (pos 10000)) unit.Us None) ∷ node 8 5 17 (k.Out 0 (Some (const ty.S32 5 24 (pos 2)))) ∷ [])) ∷ []))
+    ∷ node 9 7 1 (k.Escape 0 (Some (const ty.S32 7 8 (pos 0)))) ∷ [])) ([]) ([]) ((port ty.S32 (codes "O")) ∷ []) ([])
 
 same_time_proper : is_proper same_time ≡ true
 unfolding same_time judged
@@ -251,8 +261,8 @@ emitter_gone : Kernel
 unfolding block
 emitter_gone =
     kernel (block 0 ([]) (node 1 3 1 (k.Par par.Or 0 ((block 2 ([]) (node 3 4 5 (k.AwaitEvent 0 None) ∷ [])) ∷ (block 4 ([]) (node 5 6 5 (k.Emit 0
-        None) ∷ node 6 7 5 (k.Out 0 (Some (const ty.S32 7 12 (pos 1)))) ∷ [])) ∷ [])) ∷ node 7 9 1 (k.Out 0 (Some (const ty.S32 9 8 (pos 2)))) ∷ []))
-        ([]) ([]) ((port ty.S32 (codes "O")) ∷ []) ((event ty.None None) ∷ [])
+    None) ∷ node 6 7 5 (k.Out 0 (Some (const ty.S32 7 12 (pos 1)))) ∷ [])) ∷ [])) ∷ node 7 9 1 (k.Out 0 (Some (const ty.S32 9 8 (pos 2)))) ∷ []))
+    ([]) ([]) ((port ty.S32 (codes "O")) ∷ []) ((event ty.None None) ∷ [])
 
 emitter_gone_proper : is_proper emitter_gone ≡ true
 unfolding emitter_gone judged
@@ -285,8 +295,8 @@ emitted_twice : Kernel
 unfolding block
 emitted_twice =
     kernel (block 0 ([]) (node 1 3 1 (k.Par par.Or 0 ((block 2 ([]) (node 3 4 5 (k.Loop turns.Free (block 4 ([]) (node 5 4 5 (k.AwaitEvent 0 None) ∷
-        node 6 4 16 (k.Out 0 (Some (const ty.S32 4 23 (pos 1)))) ∷ []))) ∷ [])) ∷ (block 7 ([]) (node 8 6 5 (k.Emit 0 None) ∷ node 9 6 13 (k.Emit 0
-        None) ∷ [])) ∷ [])) ∷ [])) ([]) ([]) ((port ty.S32 (codes "O")) ∷ []) ((event ty.None None) ∷ [])
+    node 6 4 16 (k.Out 0 (Some (const ty.S32 4 23 (pos 1)))) ∷ []))) ∷ [])) ∷ (block 7 ([]) (node 8 6 5 (k.Emit 0 None) ∷ node 9 6 13 (k.Emit 0
+    None) ∷ [])) ∷ [])) ∷ [])) ([]) ([]) ((port ty.S32 (codes "O")) ∷ []) ((event ty.None None) ∷ [])
 
 emitted_twice_proper : is_proper emitted_twice ≡ true
 unfolding emitted_twice judged

@@ -1,23 +1,23 @@
 -- Programs whose runs and numbers are computed: finalizers, pools and faults.
-use Rattle.std.proofs.Common.{◌≡◌, refl, ℕ, ℤ, pos, negsuc, true, false, List, [], ◌∷◌, ◌++◌, Some, None, codes}
+use Rattle.std.proofs.Common.{◌≡◌, refl, pos, true, false, [], ◌∷◌, Some, None, codes}
 use Rattle.ceu_base.specs.declared.kinds.Ty.TheVariants as ty
-use Rattle.ceu_base.specs.declared.kinds.Op1.TheVariants as op1
 use Rattle.ceu_base.specs.declared.kinds.Op2.TheVariants as op2
-use Rattle.ceu_tree.specs.declared.command.Command.TheVariants.{Input, Advance, Idle}
+use Rattle.ceu_tree.specs.declared.command.Command.TheVariants.{Input, Advance}
 use Rattle.ceu_tree.specs.declared.kernel.Kernel.{Kernel}
 use Rattle.ceu_tree.specs.declared.kernel.ParKind.TheVariants as par
 use Rattle.ceu_tree.specs.declared.kernel.Unit.TheVariants as unit
 use Rattle.ceu_tree.specs.declared.kernel.KKind.TheVariants as kind
 use Rattle.ceu_tree.specs.declared.kernel.KLoop.TheVariants as turns
 use Rattle.ceu_tree.specs.declared.kernel.KStmt as k
-use Rattle.ceu_base.specs.declared.kinds.Mark.TheVariants.{Output, Resume, Push, Pop, Registered, Ran, Spawned, Full}
-use Rattle.ceu_base.specs.declared.kinds.Fault.TheVariants.{Overflow, DivZero, Shift, LoopLimit, SpawnCount}
+use Rattle.ceu_base.specs.declared.kinds.Mark.TheVariants.{Output}
+use Rattle.ceu_base.specs.declared.kinds.Fault.TheVariants.{Overflow, DivZero}
 use Rattle.ceu_tree.specs.Text.{shown}
 use Rattle.ceu_tree.specs.Needs.{memory}
 use Rattle.ceu_tree.specs.Proper.{is_proper}
+use Rattle.ceu_tree.specs.Legal.{is_legal}
 use Rattle.ceu_tree.specs.Costs.{cost, bounds}
 use Rattle.ceu_tree.specs.Run.{Waits, HasEnded, HasFaulted, world_of, status_of, run}
-use Rattle.ceu_tree.proofs.Build.{at, node, const, read, alive, one, two, cast, loc, arm, declared, block, port, event, coded, kernel, computed, measured, judged}
+use Rattle.ceu_tree.proofs.Build.{at, node, const, read, alive, two, loc, arm, declared, block, port, event, coded, kernel, computed, measured, judged}
 
 -- input none A; output int O;
 -- par/or do
@@ -35,10 +35,10 @@ finalizers : Kernel
 unfolding block
 finalizers =
     kernel (block 0 ([]) (node 1 2 1 (k.Par par.Or 0 ((block 2 ([]) (node 3 3 3 (k.AwaitIn 0 None) ∷ [])) ∷ (block 4 ([]) (node 5 5 3 (k.Finalize
-        (block 6 ([]) (node 7 5 20 (k.Out 0 (Some (const ty.S32 5 27 (pos 1)))) ∷ []))) ∷ node 8 6 3 (k.Finalize (block 9 ([]) (node 10 6 20 (k.Out 0
-        (Some (const ty.S32 6 27 (pos 2)))) ∷ []))) ∷ node 11 7 3 (k.Do None (block 12 ([]) (node 13 8 5 (k.Finalize (block 14 ([]) (node 15 8 22
-        (k.Out 0 (Some (const ty.S32 8 29 (pos 3)))) ∷ []))) ∷ node 16 9 5 k.Forever ∷ []))) ∷ [])) ∷ [])) ∷ node 17 12 1 (k.Escape 0 (Some (const
-        ty.S32 12 8 (pos 0)))) ∷ [])) ([]) ((port ty.None (codes "A")) ∷ []) ((port ty.S32 (codes "O")) ∷ []) ([])
+    (block 6 ([]) (node 7 5 20 (k.Out 0 (Some (const ty.S32 5 27 (pos 1)))) ∷ []))) ∷ node 8 6 3 (k.Finalize (block 9 ([]) (node 10 6 20 (k.Out 0
+    (Some (const ty.S32 6 27 (pos 2)))) ∷ []))) ∷ node 11 7 3 (k.Do None (block 12 ([]) (node 13 8 5 (k.Finalize (block 14 ([]) (node 15 8 22
+    (k.Out 0 (Some (const ty.S32 8 29 (pos 3)))) ∷ []))) ∷ node 16 9 5 k.Forever ∷ []))) ∷ [])) ∷ [])) ∷ node 17 12 1 (k.Escape 0 (Some (const
+    ty.S32 12 8 (pos 0)))) ∷ [])) ([]) ((port ty.None (codes "A")) ∷ []) ((port ty.S32 (codes "O")) ∷ []) ([])
 
 finalizers_proper : is_proper finalizers ≡ true
 unfolding finalizers judged
@@ -76,10 +76,10 @@ finalizers_stand : Kernel
 unfolding block
 finalizers_stand =
     kernel (block 0 ([]) (node 1 2 1 (k.Par par.Or 0 ((block 2 ([]) (node 3 3 3 (k.AwaitIn 0 None) ∷ [])) ∷ (block 4 ([]) (node 5 5 3 (k.Finalize
-        (block 6 ([]) (node 7 5 20 (k.Out 0 (Some (const ty.S32 5 27 (pos 1)))) ∷ []))) ∷ node 8 6 3 (k.Finalize (block 9 ([]) (node 10 6 20 (k.Out 0
-        (Some (const ty.S32 6 27 (pos 2)))) ∷ []))) ∷ node 11 7 3 (k.Do None (block 12 ([]) (node 13 8 5 (k.Finalize (block 14 ([]) (node 15 8 22
-        (k.Out 0 (Some (const ty.S32 8 29 (pos 3)))) ∷ []))) ∷ node 16 9 5 k.Forever ∷ []))) ∷ [])) ∷ [])) ∷ node 17 12 1 (k.Escape 0 (Some (const
-        ty.S32 12 8 (pos 0)))) ∷ [])) ([]) ((port ty.None (codes "A")) ∷ []) ((port ty.S32 (codes "O")) ∷ []) ([])
+    (block 6 ([]) (node 7 5 20 (k.Out 0 (Some (const ty.S32 5 27 (pos 1)))) ∷ []))) ∷ node 8 6 3 (k.Finalize (block 9 ([]) (node 10 6 20 (k.Out 0
+    (Some (const ty.S32 6 27 (pos 2)))) ∷ []))) ∷ node 11 7 3 (k.Do None (block 12 ([]) (node 13 8 5 (k.Finalize (block 14 ([]) (node 15 8 22
+    (k.Out 0 (Some (const ty.S32 8 29 (pos 3)))) ∷ []))) ∷ node 16 9 5 k.Forever ∷ []))) ∷ [])) ∷ [])) ∷ node 17 12 1 (k.Escape 0 (Some (const
+    ty.S32 12 8 (pos 0)))) ∷ [])) ([]) ((port ty.None (codes "A")) ∷ []) ((port ty.S32 (codes "O")) ∷ []) ([])
 
 finalizers_stand_proper : is_proper finalizers_stand ≡ true
 unfolding finalizers_stand judged
@@ -92,6 +92,10 @@ finalizers_stand_prints = refl
 finalizers_stand_ends : status_of (run finalizers_stand 20000 ([])) ≡ Waits
 unfolding finalizers_stand computed
 finalizers_stand_ends = refl
+
+finalizers_stand_legal : is_legal finalizers_stand (run finalizers_stand 20000 ([])) ≡ true
+unfolding finalizers_stand computed judged
+finalizers_stand_legal = refl
 
 finalizers_stand_takes : memory false finalizers_stand ≡ 119
 unfolding finalizers_stand measured
@@ -117,13 +121,13 @@ pool_full : Kernel
 unfolding block
 pool_full =
     kernel (block 0 ((declared 0 (kind.Pool 1 0)) ∷ (declared 1 (kind.Alias 0)) ∷ (declared 2 (kind.Alias 0)) ∷ []) (node 1 8 16 (k.Spawn 0 ((const
-        ty.S32 8 27 (pos 1)) ∷ []) 0 (Some 1)) ∷ node 2 9 16 (k.Spawn 0 ((const ty.S32 9 27 (pos 2)) ∷ []) 0 (Some 2)) ∷ node 3 10 1 (k.If ((arm
-        (alive ty.Bool 10 5 1) (block 4 ([]) (node 5 10 12 (k.Out 0 (Some (const ty.S32 10 19 (pos 10)))) ∷ []))) ∷ []) (block 6 ([]) ([]))) ∷ node 7
-        11 1 (k.If ((arm (alive ty.Bool 11 5 2) (block 8 ([]) (node 9 11 12 (k.Out 0 (Some (const ty.S32 11 19 (pos 20)))) ∷ []))) ∷ []) (block 10
-        ([]) ([]))) ∷ node 11 12 1 k.Forever ∷ [])) ((coded ((declared 3 (kind.Var ty.S32)) ∷ []) ty.None (block 12 ([]) (node 13 3 5 (k.Out 0 (Some
-        (read ty.S32 3 12 (loc false 3 ty.S32)))) ∷ node 14 4 5 (k.AwaitTime (const ty.S64 4 5 (pos 10000)) unit.Us None) ∷ node 15 5 5 (k.Out 0 (Some
-        (two ty.S32 5 14 op2.Add (read ty.S32 5 12 (loc false 3 ty.S32)) (const ty.S32 5 16 (pos 100))))) ∷ []))) ∷ []) ([]) ((port ty.S32 (codes
-        "O")) ∷ []) ([])
+    ty.S32 8 27 (pos 1)) ∷ []) 0 (Some 1)) ∷ node 2 9 16 (k.Spawn 0 ((const ty.S32 9 27 (pos 2)) ∷ []) 0 (Some 2)) ∷ node 3 10 1 (k.If ((arm
+    (alive ty.Bool 10 5 1) (block 4 ([]) (node 5 10 12 (k.Out 0 (Some (const ty.S32 10 19 (pos 10)))) ∷ []))) ∷ []) (block 6 ([]) ([]))) ∷ node 7
+    11 1 (k.If ((arm (alive ty.Bool 11 5 2) (block 8 ([]) (node 9 11 12 (k.Out 0 (Some (const ty.S32 11 19 (pos 20)))) ∷ []))) ∷ []) (block 10
+    ([]) ([]))) ∷ node 11 12 1 k.Forever ∷ [])) ((coded ((declared 3 (kind.Var ty.S32)) ∷ []) ty.None (block 12 ([]) (node 13 3 5 (k.Out 0 (Some
+    (read ty.S32 3 12 (loc false 3 ty.S32)))) ∷ node 14 4 5 (k.AwaitTime (const ty.S64 4 5 (pos 10000)) unit.Us None) ∷ node 15 5 5 (k.Out 0 (Some
+    (two ty.S32 5 14 op2.Add (read ty.S32 5 12 (loc false 3 ty.S32)) (const ty.S32 5 16 (pos 100))))) ∷ []))) ∷ []) ([]) ((port ty.S32 (codes
+    "O")) ∷ []) ([])
 
 pool_full_proper : is_proper pool_full ≡ true
 unfolding pool_full judged
@@ -136,6 +140,10 @@ pool_full_prints = refl
 pool_full_ends : status_of (run pool_full 20000 (Advance 10000 ∷ [])) ≡ Waits
 unfolding pool_full computed
 pool_full_ends = refl
+
+pool_full_legal : is_legal pool_full (run pool_full 20000 (Advance 10000 ∷ [])) ≡ true
+unfolding pool_full computed judged
+pool_full_legal = refl
 
 pool_full_takes : memory false pool_full ≡ 107
 unfolding pool_full measured
@@ -169,12 +177,12 @@ killed_place : Kernel
 unfolding block
 killed_place =
     kernel (block 0 ((declared 0 (kind.Pool 1 0)) ∷ (declared 1 (kind.Alias 0)) ∷ []) (node 1 10 1 (k.Unset 1) ∷ node 2 11 1 (k.Par par.Never 0
-        ((block 3 ([]) (node 4 12 5 (k.AwaitEvent 0 None) ∷ node 5 13 5 (k.Kill 1) ∷ node 6 14 9 (k.Spawn 0 ((const ty.S32 14 20 (pos 7)) ∷ []) 0
-        (Some 1)) ∷ node 7 15 5 k.Forever ∷ [])) ∷ (block 8 ([]) (node 9 17 9 (k.Spawn 0 ((const ty.S32 17 20 (pos 1)) ∷ []) 0 (Some 1)) ∷ node 10 18
-        5 (k.Out 0 (Some (const ty.S32 18 12 (pos 99)))) ∷ node 11 19 5 k.Forever ∷ [])) ∷ [])) ∷ [])) ((coded ((declared 2 (kind.Var ty.S32)) ∷ [])
-        ty.None (block 12 ([]) (node 13 4 5 (k.Out 0 (Some (read ty.S32 4 12 (loc false 2 ty.S32)))) ∷ node 14 5 5 (k.Emit 0 None) ∷ node 15 6 5
-        (k.Out 0 (Some (two ty.S32 6 14 op2.Add (read ty.S32 6 12 (loc false 2 ty.S32)) (const ty.S32 6 16 (pos 1))))) ∷ node 16 7 5 k.Forever ∷ [])))
-        ∷ []) ([]) ((port ty.S32 (codes "O")) ∷ []) ((event ty.None None) ∷ [])
+    ((block 3 ([]) (node 4 12 5 (k.AwaitEvent 0 None) ∷ node 5 13 5 (k.Kill 1) ∷ node 6 14 9 (k.Spawn 0 ((const ty.S32 14 20 (pos 7)) ∷ []) 0
+    (Some 1)) ∷ node 7 15 5 k.Forever ∷ [])) ∷ (block 8 ([]) (node 9 17 9 (k.Spawn 0 ((const ty.S32 17 20 (pos 1)) ∷ []) 0 (Some 1)) ∷ node 10 18
+    5 (k.Out 0 (Some (const ty.S32 18 12 (pos 99)))) ∷ node 11 19 5 k.Forever ∷ [])) ∷ [])) ∷ [])) ((coded ((declared 2 (kind.Var ty.S32)) ∷ [])
+    ty.None (block 12 ([]) (node 13 4 5 (k.Out 0 (Some (read ty.S32 4 12 (loc false 2 ty.S32)))) ∷ node 14 5 5 (k.Emit 0 None) ∷ node 15 6 5
+    (k.Out 0 (Some (two ty.S32 6 14 op2.Add (read ty.S32 6 12 (loc false 2 ty.S32)) (const ty.S32 6 16 (pos 1))))) ∷ node 16 7 5 k.Forever ∷ [])))
+    ∷ []) ([]) ((port ty.S32 (codes "O")) ∷ []) ((event ty.None None) ∷ [])
 
 killed_place_proper : is_proper killed_place ≡ true
 unfolding killed_place judged
@@ -187,6 +195,10 @@ killed_place_prints = refl
 killed_place_ends : status_of (run killed_place 20000 ([])) ≡ Waits
 unfolding killed_place computed
 killed_place_ends = refl
+
+killed_place_legal : is_legal killed_place (run killed_place 20000 ([])) ≡ true
+unfolding killed_place computed judged
+killed_place_legal = refl
 
 killed_place_takes : memory false killed_place ≡ 118
 unfolding killed_place measured
@@ -205,10 +217,10 @@ zero_divisor : Kernel
 unfolding block
 zero_divisor =
     kernel (block 0 ((declared 0 (kind.Var ty.S32)) ∷ (declared 1 (kind.Var ty.S32)) ∷ []) (node 1 2 1 (k.Assign (loc false 0 ty.S32) (const ty.S32 2
-        13 (pos 0))) ∷ node 2 2 1 (k.Assign (loc false 1 ty.S32) (const ty.S32 2 20 (pos 0))) ∷ node 3 3 1 (k.Finalize (block 4 ([]) (node 5 3 18
-        (k.Out 0 (Some (const ty.S32 3 25 (pos 9)))) ∷ []))) ∷ node 6 4 1 (k.Out 0 (Some (const ty.S32 4 8 (pos 1)))) ∷ node 7 5 1 (k.Assign (loc
-        false 0 ty.S32) (two ty.S32 5 7 op2.Div (const ty.S32 5 5 (pos 1)) (read ty.S32 5 9 (loc false 1 ty.S32)))) ∷ [])) ([]) ([]) ((port ty.S32
-        (codes "O")) ∷ []) ([])
+    13 (pos 0))) ∷ node 2 2 1 (k.Assign (loc false 1 ty.S32) (const ty.S32 2 20 (pos 0))) ∷ node 3 3 1 (k.Finalize (block 4 ([]) (node 5 3 18
+    (k.Out 0 (Some (const ty.S32 3 25 (pos 9)))) ∷ []))) ∷ node 6 4 1 (k.Out 0 (Some (const ty.S32 4 8 (pos 1)))) ∷ node 7 5 1 (k.Assign (loc
+    false 0 ty.S32) (two ty.S32 5 7 op2.Div (const ty.S32 5 5 (pos 1)) (read ty.S32 5 9 (loc false 1 ty.S32)))) ∷ [])) ([]) ([]) ((port ty.S32
+    (codes "O")) ∷ []) ([])
 
 zero_divisor_proper : is_proper zero_divisor ≡ true
 unfolding zero_divisor judged
@@ -240,9 +252,9 @@ overflow : Kernel
 unfolding block
 overflow =
     kernel (block 0 ((declared 0 (kind.Var ty.S32)) ∷ []) (node 1 2 1 (k.Assign (loc false 0 ty.S32) (const ty.S32 2 1 (pos 0))) ∷ node 2 3 1 (k.Loop
-        turns.Free (block 3 ([]) (node 4 3 1 (k.AwaitIn 0 (Some (loc false 0 ty.S32))) ∷ node 5 4 5 (k.Out 0 (Some (two ty.S32 4 14 op2.Add (read
-        ty.S32 4 12 (loc false 0 ty.S32)) (const ty.S32 4 16 (pos 0))))) ∷ node 6 5 5 (k.Out 0 (Some (two ty.S32 5 14 op2.Add (read ty.S32 5 12 (loc
-        false 0 ty.S32)) (const ty.S32 5 16 (pos 1))))) ∷ []))) ∷ [])) ([]) ((port ty.S32 (codes "A")) ∷ []) ((port ty.S32 (codes "O")) ∷ []) ([])
+    turns.Free (block 3 ([]) (node 4 3 1 (k.AwaitIn 0 (Some (loc false 0 ty.S32))) ∷ node 5 4 5 (k.Out 0 (Some (two ty.S32 4 14 op2.Add (read
+    ty.S32 4 12 (loc false 0 ty.S32)) (const ty.S32 4 16 (pos 0))))) ∷ node 6 5 5 (k.Out 0 (Some (two ty.S32 5 14 op2.Add (read ty.S32 5 12 (loc
+    false 0 ty.S32)) (const ty.S32 5 16 (pos 1))))) ∷ []))) ∷ [])) ([]) ((port ty.S32 (codes "A")) ∷ []) ((port ty.S32 (codes "O")) ∷ []) ([])
 
 overflow_proper : is_proper overflow ≡ true
 unfolding overflow judged

@@ -1,23 +1,21 @@
 -- Programs whose runs and numbers are computed: a lamp controller.
-use Rattle.std.proofs.Common.{◌≡◌, refl, ℕ, ℤ, pos, negsuc, true, false, List, [], ◌∷◌, ◌++◌, Some, None, codes}
+use Rattle.std.proofs.Common.{◌≡◌, refl, pos, negsuc, true, false, [], ◌∷◌, Some, None, codes}
 use Rattle.ceu_base.specs.declared.kinds.Ty.TheVariants as ty
 use Rattle.ceu_base.specs.declared.kinds.Op1.TheVariants as op1
-use Rattle.ceu_base.specs.declared.kinds.Op2.TheVariants as op2
-use Rattle.ceu_tree.specs.declared.command.Command.TheVariants.{Input, Advance, Idle}
+use Rattle.ceu_tree.specs.declared.command.Command.TheVariants.{Input, Advance}
 use Rattle.ceu_tree.specs.declared.kernel.Kernel.{Kernel}
 use Rattle.ceu_tree.specs.declared.kernel.ParKind.TheVariants as par
 use Rattle.ceu_tree.specs.declared.kernel.Unit.TheVariants as unit
 use Rattle.ceu_tree.specs.declared.kernel.KKind.TheVariants as kind
 use Rattle.ceu_tree.specs.declared.kernel.KLoop.TheVariants as turns
 use Rattle.ceu_tree.specs.declared.kernel.KStmt as k
-use Rattle.ceu_base.specs.declared.kinds.Mark.TheVariants.{Output, Resume, Push, Pop, Registered, Ran, Spawned, Full}
-use Rattle.ceu_base.specs.declared.kinds.Fault.TheVariants.{Overflow, DivZero, Shift, LoopLimit, SpawnCount}
+use Rattle.ceu_base.specs.declared.kinds.Mark.TheVariants.{Output}
 use Rattle.ceu_tree.specs.Text.{shown}
 use Rattle.ceu_tree.specs.Needs.{memory}
 use Rattle.ceu_tree.specs.Proper.{is_proper}
 use Rattle.ceu_tree.specs.Costs.{cost, bounds}
-use Rattle.ceu_tree.specs.Run.{Waits, HasEnded, HasFaulted, world_of, status_of, run}
-use Rattle.ceu_tree.proofs.Build.{at, node, const, read, alive, one, two, cast, loc, arm, declared, block, port, event, coded, kernel, computed, measured, judged}
+use Rattle.ceu_tree.specs.Run.{HasEnded, world_of, status_of, run}
+use Rattle.ceu_tree.proofs.Build.{node, const, read, one, loc, declared, block, port, event, coded, kernel, computed, measured, judged}
 
 -- // lamp controller
 -- input none BUTTON, HOLD;
@@ -68,22 +66,22 @@ lamp : Kernel
 unfolding block
 lamp =
     kernel (block 0 ((declared 0 (kind.Pool 4 0)) ∷ []) (node 1 17 1 (k.Par par.Or 0 ((block 2 ([]) (node 3 18 5 (k.AwaitIn 1 None) ∷ [])) ∷ (block 4
-        ((declared 1 (kind.Var ty.S32)) ∷ []) (node 5 20 5 (k.Assign (loc false 1 ty.S32) (const ty.S32 20 5 (pos 0))) ∷ node 6 21 5 (k.Loop
-        turns.Free (block 7 ([]) (node 8 21 5 (k.AwaitIn 2 (Some (loc false 1 ty.S32))) ∷ node 9 22 9 (k.Spawn 0 ((read ty.S32 22 21 (loc false 1
-        ty.S32)) ∷ []) 0 None) ∷ []))) ∷ [])) ∷ (block 10 ([]) (node 11 25 5 (k.Loop turns.Free (block 12 ([]) (node 13 26 9 (k.AwaitIn 0 None) ∷ node
-        14 27 9 (k.Do None (block 15 ([]) (node 16 28 13 (k.Finalize (block 17 ([]) (node 18 28 30 (k.Out 0 (Some (const ty.Bool 28 40 (pos 0)))) ∷
-        []))) ∷ node 19 29 13 (k.Par par.Or 0 ((block 20 ([]) (node 21 29 13 (k.AwaitTime (const ty.S64 29 13 (pos 5000000)) unit.Us None) ∷ [])) ∷
-        (block 22 ([]) (node 23 30 17 (k.Par par.Or 0 ((block 24 ([]) (node 25 31 21 (k.AwaitIn 0 None) ∷ [])) ∷ (block 26 ([]) (node 27 33 21 (k.Loop
-        turns.Free (block 28 ([]) (node 29 34 25 (k.Out 0 (Some (const ty.Bool 34 35 (pos 1)))) ∷ node 30 35 25 (k.AwaitTime (const ty.S64 35 25 (pos
-        500000)) unit.Us None) ∷ node 31 36 25 (k.Out 0 (Some (const ty.Bool 36 35 (pos 0)))) ∷ node 32 37 25 (k.AwaitTime (const ty.S64 37 25 (pos
-        500000)) unit.Us None) ∷ []))) ∷ [])) ∷ [])) ∷ [])) ∷ [])) ∷ []))) ∷ node 33 42 9 (k.Emit 0 None) ∷ []))) ∷ [])) ∷ [])) ∷ node 34 45 1
-        (k.Escape 0 (Some (const ty.S32 45 8 (pos 0)))) ∷ [])) ((coded ((declared 2 (kind.Var ty.S32)) ∷ []) ty.None (block 35 ([]) (node 36 8 5
-        (k.Finalize (block 37 ([]) (node 38 8 22 (k.Out 1 (Some (one ty.S32 8 32 op1.Neg (read ty.S32 8 33 (loc false 2 ty.S32))))) ∷ []))) ∷ node 39
-        9 5 (k.Par par.Or 0 ((block 40 ([]) (node 41 9 5 (k.AwaitEvent 0 None) ∷ [])) ∷ (block 42 ([]) (node 43 10 9 (k.Loop (turns.Range 3 4 5 false
-        (const ty.S32 10 20 (pos 0)) (const ty.S32 10 25 (pos 2)) false) (block 44 ([]) (node 45 11 13 (k.Out 1 (Some (read ty.S32 11 23 (loc false 2
-        ty.S32)))) ∷ node 46 12 13 (k.AwaitTime (const ty.S64 12 13 (pos 1000000)) unit.Us None) ∷ []))) ∷ [])) ∷ [])) ∷ []))) ∷ []) ((port ty.None
-        (codes "BUTTON")) ∷ (port ty.None (codes "HOLD")) ∷ (port ty.S32 (codes "ALARM")) ∷ []) ((port ty.Bool (codes "LAMP")) ∷ (port ty.S32 (codes
-        "BEEP")) ∷ []) ((event ty.None None) ∷ [])
+    ((declared 1 (kind.Var ty.S32)) ∷ []) (node 5 20 5 (k.Assign (loc false 1 ty.S32) (const ty.S32 20 5 (pos 0))) ∷ node 6 21 5 (k.Loop
+    turns.Free (block 7 ([]) (node 8 21 5 (k.AwaitIn 2 (Some (loc false 1 ty.S32))) ∷ node 9 22 9 (k.Spawn 0 ((read ty.S32 22 21 (loc false 1
+    ty.S32)) ∷ []) 0 None) ∷ []))) ∷ [])) ∷ (block 10 ([]) (node 11 25 5 (k.Loop turns.Free (block 12 ([]) (node 13 26 9 (k.AwaitIn 0 None) ∷ node
+    14 27 9 (k.Do None (block 15 ([]) (node 16 28 13 (k.Finalize (block 17 ([]) (node 18 28 30 (k.Out 0 (Some (const ty.Bool 28 40 (pos 0)))) ∷
+    []))) ∷ node 19 29 13 (k.Par par.Or 0 ((block 20 ([]) (node 21 29 13 (k.AwaitTime (const ty.S64 29 13 (pos 5000000)) unit.Us None) ∷ [])) ∷
+    (block 22 ([]) (node 23 30 17 (k.Par par.Or 0 ((block 24 ([]) (node 25 31 21 (k.AwaitIn 0 None) ∷ [])) ∷ (block 26 ([]) (node 27 33 21 (k.Loop
+    turns.Free (block 28 ([]) (node 29 34 25 (k.Out 0 (Some (const ty.Bool 34 35 (pos 1)))) ∷ node 30 35 25 (k.AwaitTime (const ty.S64 35 25 (pos
+    500000)) unit.Us None) ∷ node 31 36 25 (k.Out 0 (Some (const ty.Bool 36 35 (pos 0)))) ∷ node 32 37 25 (k.AwaitTime (const ty.S64 37 25 (pos
+    500000)) unit.Us None) ∷ []))) ∷ [])) ∷ [])) ∷ [])) ∷ [])) ∷ []))) ∷ node 33 42 9 (k.Emit 0 None) ∷ []))) ∷ [])) ∷ [])) ∷ node 34 45 1
+    (k.Escape 0 (Some (const ty.S32 45 8 (pos 0)))) ∷ [])) ((coded ((declared 2 (kind.Var ty.S32)) ∷ []) ty.None (block 35 ([]) (node 36 8 5
+    (k.Finalize (block 37 ([]) (node 38 8 22 (k.Out 1 (Some (one ty.S32 8 32 op1.Neg (read ty.S32 8 33 (loc false 2 ty.S32))))) ∷ []))) ∷ node 39
+    9 5 (k.Par par.Or 0 ((block 40 ([]) (node 41 9 5 (k.AwaitEvent 0 None) ∷ [])) ∷ (block 42 ([]) (node 43 10 9 (k.Loop (turns.Range 3 4 5 false
+    (const ty.S32 10 20 (pos 0)) (const ty.S32 10 25 (pos 2)) false) (block 44 ([]) (node 45 11 13 (k.Out 1 (Some (read ty.S32 11 23 (loc false 2
+    ty.S32)))) ∷ node 46 12 13 (k.AwaitTime (const ty.S64 12 13 (pos 1000000)) unit.Us None) ∷ []))) ∷ [])) ∷ [])) ∷ []))) ∷ []) ((port ty.None
+    (codes "BUTTON")) ∷ (port ty.None (codes "HOLD")) ∷ (port ty.S32 (codes "ALARM")) ∷ []) ((port ty.Bool (codes "LAMP")) ∷ (port ty.S32 (codes
+    "BEEP")) ∷ []) ((event ty.None None) ∷ [])
 
 lamp_proper : is_proper lamp ≡ true
 unfolding lamp judged

@@ -21,3 +21,4 @@ pub mod Typing
 pub mod Numbering
 pub mod Mentions
 pub mod Proper
+pub mod Legal

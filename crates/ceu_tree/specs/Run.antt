@@ -1,6 +1,6 @@
 -- Reactions, commands and runs (Céu 0.30 manual, chapter on the execution model; TECS 2017: a program is a sequence of reactions, each to one
 -- occurrence; levels, marks, rounds of asyncs and idle turns are this project's own).
-use Rattle.std.specs.Prelude.{◌≡◌, ℕ, zero, suc, ◌+◌, ◌-◌, ℤ, pos, Bool, true, false, if◌then◌else◌, nat_le, List, [], ◌∷◌, Option, Some, None}
+use Rattle.std.specs.Prelude.{◌≡◌, ℕ, zero, suc, ◌+◌, ◌-◌, ℤ, pos, Bool, true, false, nat_le, List, [], ◌∷◌, Option, Some, None}
 use Rattle.ceu_base.specs.declared.kinds.Pos.{Pos}
 use Rattle.ceu_base.specs.declared.kinds.Fault.{Fault}
 use Rattle.ceu_base.specs.declared.kinds.Mark.{Mark}

@@ -1,13 +1,13 @@
 -- The types of expressions (this project's own). An expression is open when all its leaves are integer literals and its operators are arithmetic or
 -- bitwise; an open expression takes the type that its place wants, any other one the types of its operands give.
-use Rattle.std.specs.Prelude.{ℕ, ℤ, int_le, Bool, true, false, not, ◌&&◌, ◌||◌, if◌then◌else◌, ◌==◌, List, [], ◌∷◌, Option, Some, None}
+use Rattle.std.specs.Prelude.{ℕ, int_le, Bool, true, false, not, ◌&&◌, ◌||◌, if◌then◌else◌, ◌==◌, List, [], ◌∷◌, Option, Some, None}
 use Rattle.ceu_base.specs.declared.kinds.Ty.{Ty}
 use Rattle.ceu_base.specs.declared.kinds.Ty.TheVariants as ty
 use Rattle.ceu_base.specs.declared.kinds.Op1.{Op1}
 use Rattle.ceu_base.specs.declared.kinds.Op1.TheVariants as op1
 use Rattle.ceu_base.specs.declared.kinds.Op2.{Op2}
 use Rattle.ceu_base.specs.declared.kinds.Op2.TheVariants as op2
-use Rattle.ceu_base.specs.Values.{least, above, width, is_value, is_signed, is_numeric, is_bool, is_shift}
+use Rattle.ceu_base.specs.Values.{least, above, is_value, is_numeric, is_bool, is_shift}
 use Rattle.ceu_tree.specs.declared.kernel.Loc.{Loc}
 use Rattle.ceu_tree.specs.declared.kernel.KExp.{KExp}
 use Rattle.ceu_tree.specs.declared.kernel.KExpNode.{KExpNode, Row_of-KExp, end_of-KExp, more_of-KExp, Const, Read, Alive, One', Two', As'}
