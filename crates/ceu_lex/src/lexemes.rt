@@ -177,8 +177,9 @@ fn is_hex(text: &[u8]) -> bool
         && all_hex_digits(&text[2..])
 }
 
+/// A run of letters, digits and `_` that begins with a digit, as a number or a time.
 #[tactic(auto, unfolding(crate::specs::Lexemes::literal))]
-fn literal(text: &[u8]) -> Result<TokenKind, Rule>
+pub fn literal(text: &[u8]) -> Result<TokenKind, Rule>
     ensures { result ≡ spec.literal text.now }
 {
     if all_digits(text) {

@@ -9,6 +9,7 @@ mod times;
 mod token;
 
 pub use laws::{longest_token, one_outcome};
+pub use lexemes::literal;
 pub use lexer::{LexError, lex};
 pub use token::{RESERVED, SYMBOLS, Sym, Token, TokenKind, UNITS, Word};
 

@@ -1,7 +1,6 @@
 -- The stack of open blocks, of which the code sees the outermost first.
-use Rattle.std.proofs.Common.{◌≡◌, refl, List, [], ◌∷◌, ◌++◌, reverse, ℕ, ◌∙◌, sym, ap}
+use Rattle.std.proofs.Common.{◌≡◌, refl, List, [], ◌∷◌, ◌++◌, reverse, ◌∙◌, ap}
 use Rattle.std.proofs.lemmas.List.{reverse-append}
-use Rattle.ceu_scopes.specs.declared.known.Known.{Known}
 use Rattle.ceu_scopes.specs.declared.scope.Scope.{Scope}
 use Rattle.ceu_scopes.specs.Walk.{outermost}
 

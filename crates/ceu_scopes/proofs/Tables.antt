@@ -1,5 +1,5 @@
 -- A table of names as the list that contracts see.
-use Rattle.std.proofs.Common.{◌≡◌, refl, ap, Bool, true, false, List, [], ◌∷◌, ℕ, bytes_eq, if◌then◌else◌, cond, Some, Option, String, string_bytes, string_eq}
+use Rattle.std.proofs.Common.{◌≡◌, refl, ap, Bool, true, false, List, [], ◌∷◌, ℕ, bytes_eq, if◌then◌else◌, cond, Some, String, string_bytes, string_eq}
 use Rattle.std.specs.Map.{lookup}
 use Rattle.indexmap.specs.IndexMap.{insert_entry}
 use Rattle.ceu_scopes.specs.declared.known.Known.{Known}

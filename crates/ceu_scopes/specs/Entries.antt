@@ -1,5 +1,5 @@
 -- The entries of a table of names as contracts see them: each name as the list of its bytes.
-use Rattle.std.specs.Prelude.{ℕ, List, [], ◌∷◌, map, String, string_bytes}
+use Rattle.std.specs.Prelude.{ℕ, List, map, String, string_bytes}
 use Rattle.ceu_scopes.specs.declared.known.Known.{Known}
 
 module _ {A : Type 0} where

@@ -4,20 +4,19 @@
 -- the declarations that it shows so far: a name is shown from the end of the item or form that declares it to the end of its block.
 -- A use of a name has the first declaration that is found from the innermost block outward. Between a block and the one around it
 -- may stand a border: the list of an async, or the head of a code body, through which only external events and code are seen.
-use Rattle.std.specs.Prelude.{ℕ, ◌+◌, Bool, true, false, ◌&&◌, ◌||◌, ◌==◌, List, [], ◌∷◌, ◌++◌, Option, Some, None, Result, Ok, Err, ok_or, is_some, length, bytes_eq, if◌then◌else◌}
+use Rattle.std.specs.Prelude.{ℕ, ◌+◌, Bool, true, false, ◌&&◌, ◌||◌, ◌==◌, List, [], ◌∷◌, Option, Some, None, Result, Ok, Err, ok_or, length, bytes_eq, if◌then◌else◌}
 use Rattle.ceu_base.specs.declared.kinds.Rule.{Rule}
 use Rattle.ceu_base.specs.declared.kinds.Rule.TheVariants.{N1, N4, N5}
 use Rattle.ceu_base.specs.declared.kinds.Pos.{Pos}
 use Rattle.ceu_tree.specs.declared.source.Class.{Class}
 use Rattle.ceu_tree.specs.declared.source.Class.TheVariants as class
-use Rattle.ceu_tree.specs.declared.source.Decl.{Decl}
 use Rattle.ceu_tree.specs.declared.source.Ident.{Ident}
 use Rattle.ceu_scopes.specs.declared.known.Known.{Known}
 use Rattle.ceu_scopes.specs.declared.scope.Border.{Border}
-use Rattle.ceu_scopes.specs.declared.scope.Border.TheVariants.{Plain, Async, Body}
+use Rattle.ceu_scopes.specs.declared.scope.Border.TheVariants.{Async, Body}
 use Rattle.ceu_scopes.specs.declared.scope.Scope.{Scope}
 use Rattle.ceu_scopes.specs.declared.walk.Walk.{Walk}
-use Rattle.ceu_scopes.specs.Shown.{found, entered, is_among}
+use Rattle.ceu_scopes.specs.Shown.{found, entered, is_among, rest_of}
 
 -- a rule that is broken, and where
 abbrev pub Broken : Type 0
@@ -29,9 +28,14 @@ Step = Result Walk Broken
 
 -- the second step, where the first breaks no rule
 infixl 10 ◌>>=◌
-abbrev pub ◌>>=◌ : {A B E : Type 0} → Result A E → (A → Result B E) → Result B E
+unfoldable pub ◌>>=◌ : {A B E : Type 0} → Result A E → (A → Result B E) → Result B E
 Ok x >>= f = f x
 Err e >>= f = Err e
+
+-- a step for each item of a list, in order
+unfoldable pub each : {A S : Type 0} → (A → S → Result S Broken) → List A → S → Result S Broken
+each f [] s = Ok s
+each f (x ∷ xs) s = f x s >>= each f xs
 
 -- ---- what is visible
 
@@ -116,20 +120,16 @@ is_listed (s ∷ outside) k = (s.block == k.block) || (admits s.border k.number 
 -- ---- blocks
 
 -- a new block around what follows
-abbrev pub opened : Border → Walk → Walk
+unfoldable pub opened : Border → Walk → Walk
 opened border w =
     record w {
       scopes = record { block = w.blocks; border = border; names = [] } ∷ w.scopes;
       blocks = w.blocks + 1;
     }
 
-abbrev pub outside_of : List Scope → List Scope
-outside_of [] = []
-outside_of (s ∷ outside) = outside
-
 -- the innermost block ends
-abbrev pub closed : Walk → Step
-closed w = Ok (record w { scopes = outside_of w.scopes })
+unfoldable pub closed : Walk → Step
+closed w = Ok (record w { scopes = rest_of w.scopes })
 
 -- the number of the innermost block
 abbrev pub block_of : List Scope → ℕ
@@ -146,9 +146,9 @@ with_name x k [] = []
 with_name x k (s ∷ outside) = record s { names = entered s.names x k } ∷ outside
 
 -- from here on the innermost block shows the name
-abbrev pub shown : Ident → Known → Walk → Step
+unfoldable pub shown : Ident → Known → Walk → Step
 shown x k w = Ok (record w { scopes = with_name x.name k w.scopes })
 
 -- the declaration that comes next in the text, with this class and, for a pool or an alias, this code
-abbrev pub fresh : Class → ℕ → Walk → Known
+unfoldable pub fresh : Class → ℕ → Walk → Known
 fresh c code w = record { number = length w.decls; class = c; code = code; block = block_of w.scopes }

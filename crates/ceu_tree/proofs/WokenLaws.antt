@@ -11,121 +11,121 @@ use Rattle.ceu_tree.proofs.EnterLaws.{enter_KNode_row}
 use Rattle.ceu_tree.specs.Costs.{Cost, nothing, plus, sum_of, enter, enter_list, rest_cost, body_cost, loop_woken, woken, woken_block, woken_arm, woken_nodes, woken_arms, woken_blocks, woken_node}
 use denote.Hole.Carrier
 
-pub woken_of_nothing : (passing : List Bool) (event : ℕ → Cost) (entering : List Cost) (e : ℕ) → woken passing event entering e k.Nothing ≡ nothing
+pub woken_of_nothing : (passing : List Bool) (events : List Cost) (entering : List Cost) (e : ℕ) → woken passing events entering e k.Nothing ≡ nothing
 unfolding woken
-woken_of_nothing passing event entering e = refl
+woken_of_nothing passing events entering e = refl
 
-pub woken_of_assign : (passing : List Bool) (event : ℕ → Cost) (entering : List Cost) (e : ℕ) (l : _) (x : KExp) → woken passing event entering e (k.Assign l x) ≡ nothing
+pub woken_of_assign : (passing : List Bool) (events : List Cost) (entering : List Cost) (e : ℕ) (l : _) (x : KExp) → woken passing events entering e (k.Assign l x) ≡ nothing
 unfolding woken
-woken_of_assign passing event entering e l x = refl
+woken_of_assign passing events entering e l x = refl
 
-pub woken_of_out : (passing : List Bool) (event : ℕ → Cost) (entering : List Cost) (e : ℕ) (n : ℕ) (x : _) → woken passing event entering e (k.Out n x) ≡ nothing
+pub woken_of_out : (passing : List Bool) (events : List Cost) (entering : List Cost) (e : ℕ) (n : ℕ) (x : _) → woken passing events entering e (k.Out n x) ≡ nothing
 unfolding woken
-woken_of_out passing event entering e n x = refl
+woken_of_out passing events entering e n x = refl
 
-pub woken_of_emit : (passing : List Bool) (event : ℕ → Cost) (entering : List Cost) (e : ℕ) (n : ℕ) (x : _) → woken passing event entering e (k.Emit n x) ≡ nothing
+pub woken_of_emit : (passing : List Bool) (events : List Cost) (entering : List Cost) (e : ℕ) (n : ℕ) (x : _) → woken passing events entering e (k.Emit n x) ≡ nothing
 unfolding woken
-woken_of_emit passing event entering e n x = refl
+woken_of_emit passing events entering e n x = refl
 
-pub woken_of_await_in : (passing : List Bool) (event : ℕ → Cost) (entering : List Cost) (e : ℕ) (n : ℕ) (t : _) → woken passing event entering e (k.AwaitIn n t) ≡ nothing
+pub woken_of_await_in : (passing : List Bool) (events : List Cost) (entering : List Cost) (e : ℕ) (n : ℕ) (t : _) → woken passing events entering e (k.AwaitIn n t) ≡ nothing
 unfolding woken
-woken_of_await_in passing event entering e n t = refl
+woken_of_await_in passing events entering e n t = refl
 
-pub woken_of_await_time : (passing : List Bool) (event : ℕ → Cost) (entering : List Cost) (e : ℕ) (x : KExp) (u : _) (t : _) → woken passing event entering e (k.AwaitTime x u t) ≡ nothing
+pub woken_of_await_time : (passing : List Bool) (events : List Cost) (entering : List Cost) (e : ℕ) (x : KExp) (u : _) (t : _) → woken passing events entering e (k.AwaitTime x u t) ≡ nothing
 unfolding woken
-woken_of_await_time passing event entering e x u t = refl
+woken_of_await_time passing events entering e x u t = refl
 
-pub woken_of_await_event : (passing : List Bool) (event : ℕ → Cost) (entering : List Cost) (e : ℕ) (n : ℕ) (t : _) → woken passing event entering e (k.AwaitEvent n t) ≡ nothing
+pub woken_of_await_event : (passing : List Bool) (events : List Cost) (entering : List Cost) (e : ℕ) (n : ℕ) (t : _) → woken passing events entering e (k.AwaitEvent n t) ≡ nothing
 unfolding woken
-woken_of_await_event passing event entering e n t = refl
+woken_of_await_event passing events entering e n t = refl
 
-pub woken_of_forever : (passing : List Bool) (event : ℕ → Cost) (entering : List Cost) (e : ℕ) → woken passing event entering e k.Forever ≡ nothing
+pub woken_of_forever : (passing : List Bool) (events : List Cost) (entering : List Cost) (e : ℕ) → woken passing events entering e k.Forever ≡ nothing
 unfolding woken
-woken_of_forever passing event entering e = refl
+woken_of_forever passing events entering e = refl
 
-pub woken_of_await_code : (passing : List Bool) (event : ℕ → Cost) (entering : List Cost) (e : ℕ) (c : ℕ) (es : List KExp) (f : ℕ) (t : _) → woken passing event entering e (k.AwaitCode c es f t) ≡ nothing
+pub woken_of_await_code : (passing : List Bool) (events : List Cost) (entering : List Cost) (e : ℕ) (c : ℕ) (es : List KExp) (f : ℕ) (t : _) → woken passing events entering e (k.AwaitCode c es f t) ≡ nothing
 unfolding woken
-woken_of_await_code passing event entering e c es f t = refl
+woken_of_await_code passing events entering e c es f t = refl
 
-pub woken_of_spawn : (passing : List Bool) (event : ℕ → Cost) (entering : List Cost) (e : ℕ) (c : ℕ) (es : List KExp) (p : ℕ) (a : _) → woken passing event entering e (k.Spawn c es p a) ≡ nothing
+pub woken_of_spawn : (passing : List Bool) (events : List Cost) (entering : List Cost) (e : ℕ) (c : ℕ) (es : List KExp) (p : ℕ) (a : _) → woken passing events entering e (k.Spawn c es p a) ≡ nothing
 unfolding woken
-woken_of_spawn passing event entering e c es p a = refl
+woken_of_spawn passing events entering e c es p a = refl
 
-pub woken_of_kill : (passing : List Bool) (event : ℕ → Cost) (entering : List Cost) (e : ℕ) (n : ℕ) → woken passing event entering e (k.Kill n) ≡ nothing
+pub woken_of_kill : (passing : List Bool) (events : List Cost) (entering : List Cost) (e : ℕ) (n : ℕ) → woken passing events entering e (k.Kill n) ≡ nothing
 unfolding woken
-woken_of_kill passing event entering e n = refl
+woken_of_kill passing events entering e n = refl
 
-pub woken_of_unset : (passing : List Bool) (event : ℕ → Cost) (entering : List Cost) (e : ℕ) (n : ℕ) → woken passing event entering e (k.Unset n) ≡ nothing
+pub woken_of_unset : (passing : List Bool) (events : List Cost) (entering : List Cost) (e : ℕ) (n : ℕ) → woken passing events entering e (k.Unset n) ≡ nothing
 unfolding woken
-woken_of_unset passing event entering e n = refl
+woken_of_unset passing events entering e n = refl
 
-pub woken_of_async : (passing : List Bool) (event : ℕ → Cost) (entering : List Cost) (e : ℕ) (b : KBlock) → woken passing event entering e (k.Async b) ≡ nothing
+pub woken_of_async : (passing : List Bool) (events : List Cost) (entering : List Cost) (e : ℕ) (b : KBlock) → woken passing events entering e (k.Async b) ≡ nothing
 unfolding woken
-woken_of_async passing event entering e b = refl
+woken_of_async passing events entering e b = refl
 
-pub woken_of_finalize : (passing : List Bool) (event : ℕ → Cost) (entering : List Cost) (e : ℕ) (b : KBlock) → woken passing event entering e (k.Finalize b) ≡ nothing
+pub woken_of_finalize : (passing : List Bool) (events : List Cost) (entering : List Cost) (e : ℕ) (b : KBlock) → woken passing events entering e (k.Finalize b) ≡ nothing
 unfolding woken
-woken_of_finalize passing event entering e b = refl
+woken_of_finalize passing events entering e b = refl
 
-pub woken_of_do : (passing : List Bool) (event : ℕ → Cost) (entering : List Cost) (e : ℕ) (t : _) (b : KBlock) → woken passing event entering e (k.Do t b) ≡ woken_block passing event entering e b
+pub woken_of_do : (passing : List Bool) (events : List Cost) (entering : List Cost) (e : ℕ) (t : _) (b : KBlock) → woken passing events entering e (k.Do t b) ≡ woken_block passing events entering e b
 unfolding woken
-woken_of_do passing event entering e t b = refl
+woken_of_do passing events entering e t b = refl
 
-pub woken_of_escape : (passing : List Bool) (event : ℕ → Cost) (entering : List Cost) (e : ℕ) (n : ℕ) (x : _) → woken passing event entering e (k.Escape n x) ≡ nothing
+pub woken_of_escape : (passing : List Bool) (events : List Cost) (entering : List Cost) (e : ℕ) (n : ℕ) (x : _) → woken passing events entering e (k.Escape n x) ≡ nothing
 unfolding woken
-woken_of_escape passing event entering e n x = refl
+woken_of_escape passing events entering e n x = refl
 
-pub woken_of_break : (passing : List Bool) (event : ℕ → Cost) (entering : List Cost) (e : ℕ) (n : ℕ) → woken passing event entering e (k.Break n) ≡ nothing
+pub woken_of_break : (passing : List Bool) (events : List Cost) (entering : List Cost) (e : ℕ) (n : ℕ) → woken passing events entering e (k.Break n) ≡ nothing
 unfolding woken
-woken_of_break passing event entering e n = refl
+woken_of_break passing events entering e n = refl
 
-pub woken_of_continue : (passing : List Bool) (event : ℕ → Cost) (entering : List Cost) (e : ℕ) (n : ℕ) → woken passing event entering e (k.Continue n) ≡ nothing
+pub woken_of_continue : (passing : List Bool) (events : List Cost) (entering : List Cost) (e : ℕ) (n : ℕ) → woken passing events entering e (k.Continue n) ≡ nothing
 unfolding woken
-woken_of_continue passing event entering e n = refl
+woken_of_continue passing events entering e n = refl
 
-pub woken_of_loop : (passing : List Bool) (event : ℕ → Cost) (entering : List Cost) (e : ℕ) (kind : _) (b : KBlock) → woken passing event entering e (k.Loop kind b) ≡ plus (loop_woken passing event entering e kind b) (woken_block passing event entering e b)
+pub woken_of_loop : (passing : List Bool) (events : List Cost) (entering : List Cost) (e : ℕ) (kind : _) (b : KBlock) → woken passing events entering e (k.Loop kind b) ≡ plus (loop_woken passing events entering e kind b) (woken_block passing events entering e b)
 unfolding woken
-woken_of_loop passing event entering e kind b = refl
+woken_of_loop passing events entering e kind b = refl
 
-woken_KNode_row : (passing : List Bool) (event : ℕ → Cost) (entering : List Cost) (e : ℕ) {n : _} (r : Row_of-KNode n) → woken_nodes passing event entering e r ≡ sum_of (woken_node passing event entering e) (items-the_row-KNode n r)
+woken_KNode_row : (passing : List Bool) (events : List Cost) (entering : List Cost) (e : ℕ) {n : _} (r : Row_of-KNode n) → woken_nodes passing events entering e r ≡ sum_of (woken_node passing events entering e) (items-the_row-KNode n r)
 unfolding woken
-woken_KNode_row passing event entering e end_of-KNode = refl
-woken_KNode_row passing event entering e (more_of-KNode n p s rest) = ap (λ k. plus (woken passing event entering e s) k) (woken_KNode_row passing event entering e rest)
+woken_KNode_row passing events entering e end_of-KNode = refl
+woken_KNode_row passing events entering e (more_of-KNode n p s rest) = ap (λ k. plus (woken passing events entering e s) k) (woken_KNode_row passing events entering e rest)
 
-woken_KArm_row : (passing : List Bool) (event : ℕ → Cost) (entering : List Cost) (e : ℕ) {n : _} (r : Row_of-KArm n) → woken_arms passing event entering e r ≡ sum_of (woken_arm passing event entering e) (items-the_row-KArm n r)
+woken_KArm_row : (passing : List Bool) (events : List Cost) (entering : List Cost) (e : ℕ) {n : _} (r : Row_of-KArm n) → woken_arms passing events entering e r ≡ sum_of (woken_arm passing events entering e) (items-the_row-KArm n r)
 unfolding woken
-woken_KArm_row passing event entering e end_of-KArm = refl
-woken_KArm_row passing event entering e (more_of-KArm b rest) = ap (λ k. plus (woken_arm passing event entering e b) k) (woken_KArm_row passing event entering e rest)
+woken_KArm_row passing events entering e end_of-KArm = refl
+woken_KArm_row passing events entering e (more_of-KArm b rest) = ap (λ k. plus (woken_arm passing events entering e b) k) (woken_KArm_row passing events entering e rest)
 
-woken_KBlock_row : (passing : List Bool) (event : ℕ → Cost) (entering : List Cost) (e : ℕ) {n : _} (r : Row_of-KBlock n) → woken_blocks passing event entering e r ≡ sum_of (woken_block passing event entering e) (items-the_row-KBlock n r)
+woken_KBlock_row : (passing : List Bool) (events : List Cost) (entering : List Cost) (e : ℕ) {n : _} (r : Row_of-KBlock n) → woken_blocks passing events entering e r ≡ sum_of (woken_block passing events entering e) (items-the_row-KBlock n r)
 unfolding woken
-woken_KBlock_row passing event entering e end_of-KBlock = refl
-woken_KBlock_row passing event entering e (more_of-KBlock b rest) = ap (λ k. plus (woken_block passing event entering e b) k) (woken_KBlock_row passing event entering e rest)
+woken_KBlock_row passing events entering e end_of-KBlock = refl
+woken_KBlock_row passing events entering e (more_of-KBlock b rest) = ap (λ k. plus (woken_block passing events entering e b) k) (woken_KBlock_row passing events entering e rest)
 
-pub woken_of_block : (passing : List Bool) (event : ℕ → Cost) (entering : List Cost) (e : ℕ) (b : KBlock) → woken_block passing event entering e b ≡ sum_of (woken_node passing event entering e) (out-KBlock b).list
+pub woken_of_block : (passing : List Bool) (events : List Cost) (entering : List Cost) (e : ℕ) (b : KBlock) → woken_block passing events entering e b ≡ sum_of (woken_node passing events entering e) (out-KBlock b).list
 unfolding woken out-KBlock Carrier.out
-woken_of_block passing event entering e (KBlock' n ds x list) = ap (λ k. k) (woken_KNode_row passing event entering e list ∙ sym (ap (sum_of (woken_node passing event entering e)) (items_shown-the_row-KNode-2 x list)))
+woken_of_block passing events entering e (KBlock' n ds x list) = ap (λ k. k) (woken_KNode_row passing events entering e list ∙ sym (ap (sum_of (woken_node passing events entering e)) (items_shown-the_row-KNode-2 x list)))
 
-pub woken_of_arm : (passing : List Bool) (event : ℕ → Cost) (entering : List Cost) (e : ℕ) (a : KArm) → woken_arm passing event entering e a ≡ woken_block passing event entering e (out-KArm a).body
+pub woken_of_arm : (passing : List Bool) (events : List Cost) (entering : List Cost) (e : ℕ) (a : KArm) → woken_arm passing events entering e a ≡ woken_block passing events entering e (out-KArm a).body
 unfolding woken out-KArm Carrier.out
-woken_of_arm passing event entering e (KArm' c b) = refl
+woken_of_arm passing events entering e (KArm' c b) = refl
 
-pub woken_of_if : (passing : List Bool) (event : ℕ → Cost) (entering : List Cost) (e : ℕ) (arms : List KArm) (last : KBlock) → woken passing event entering e (k.If arms last) ≡ plus (sum_of (woken_arm passing event entering e) arms) (woken_block passing event entering e last)
+pub woken_of_if : (passing : List Bool) (events : List Cost) (entering : List Cost) (e : ℕ) (arms : List KArm) (last : KBlock) → woken passing events entering e (k.If arms last) ≡ plus (sum_of (woken_arm passing events entering e) arms) (woken_block passing events entering e last)
 unfolding woken
-woken_of_if passing event entering e arms last = ap (λ k. plus k (woken_block passing event entering e last)) (woken_KArm_row passing event entering e (hidden-the_row-KArm-0 arms) ∙ ap (sum_of (woken_arm passing event entering e)) (items_hidden-the_row-KArm-0 arms))
+woken_of_if passing events entering e arms last = ap (λ k. plus k (woken_block passing events entering e last)) (woken_KArm_row passing events entering e (hidden-the_row-KArm-0 arms) ∙ ap (sum_of (woken_arm passing events entering e)) (items_hidden-the_row-KArm-0 arms))
 
-pub woken_of_par : (passing : List Bool) (event : ℕ → Cost) (entering : List Cost) (e : ℕ) (kind : _) (slot : ℕ) (bs : List KBlock) → woken passing event entering e (k.Par kind slot bs) ≡ sum_of (woken_block passing event entering e) bs
+pub woken_of_par : (passing : List Bool) (events : List Cost) (entering : List Cost) (e : ℕ) (kind : _) (slot : ℕ) (bs : List KBlock) → woken passing events entering e (k.Par kind slot bs) ≡ sum_of (woken_block passing events entering e) bs
 unfolding woken
-woken_of_par passing event entering e kind slot bs = ap (λ k. k) (woken_KBlock_row passing event entering e (hidden-the_row-KBlock-1 bs) ∙ ap (sum_of (woken_block passing event entering e)) (items_hidden-the_row-KBlock-1 bs))
+woken_of_par passing events entering e kind slot bs = ap (λ k. k) (woken_KBlock_row passing events entering e (hidden-the_row-KBlock-1 bs) ∙ ap (sum_of (woken_block passing events entering e)) (items_hidden-the_row-KBlock-1 bs))
 
-rest_row : (passing : List Bool) (event : ℕ → Cost) (entering : List Cost) {n : _} (r : Row_of-KNode n) → rest_cost passing event entering r ≡ enter_list passing event entering (drop 1 (items-the_row-KNode n r))
+rest_row : (passing : List Bool) (events : List Cost) (entering : List Cost) {n : _} (r : Row_of-KNode n) → rest_cost passing events entering r ≡ enter_list passing events entering (drop 1 (items-the_row-KNode n r))
 unfolding woken enter
-rest_row passing event entering end_of-KNode = refl
-rest_row passing event entering (more_of-KNode m p s rest) = enter_KNode_row passing event entering rest
+rest_row passing events entering end_of-KNode = refl
+rest_row passing events entering (more_of-KNode m p s rest) = enter_KNode_row passing events entering rest
 
-pub body_cost_of : (passing : List Bool) (event : ℕ → Cost) (entering : List Cost) (b : KBlock) → body_cost passing event entering b ≡ enter_list passing event entering (drop 1 (out-KBlock b).list)
+pub body_cost_of : (passing : List Bool) (events : List Cost) (entering : List Cost) (b : KBlock) → body_cost passing events entering b ≡ enter_list passing events entering (drop 1 (out-KBlock b).list)
 unfolding woken enter out-KBlock Carrier.out
-body_cost_of passing event entering (KBlock' n ds x list) =
-    rest_row passing event entering list ∙ sym (ap (λ k. enter_list passing event entering (drop 1 k)) (items_shown-the_row-KNode-2 x list))
+body_cost_of passing events entering (KBlock' n ds x list) =
+    rest_row passing events entering list ∙ sym (ap (λ k. enter_list passing events entering (drop 1 k)) (items_shown-the_row-KNode-2 x list))
 
 pub ruleset wokens = (body_cost_of, woken_of_nothing, woken_of_assign, woken_of_out, woken_of_emit, woken_of_await_in, woken_of_await_time, woken_of_await_event, woken_of_forever, woken_of_await_code, woken_of_spawn, woken_of_kill, woken_of_unset, woken_of_async, woken_of_finalize, woken_of_do, woken_of_escape, woken_of_break, woken_of_continue, woken_of_loop, woken_of_block, woken_of_arm, woken_of_if, woken_of_par)

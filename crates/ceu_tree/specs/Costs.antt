@@ -1,7 +1,7 @@
 -- What a statement costs in one reaction: turns of trails, and levels that it opens (this project's own).
 --
 -- `enter` bounds the cost from a statement's start, `stay` the cost where it stood waiting when the reaction began. `passing` says which codes
--- may go on at once, `event` what an emission costs, `entering` and `staying` what the codes above cost.
+-- may go on at once, `events` what an emission of each event costs, `entering` and `staying` what the codes above cost.
 use Rattle.std.specs.Prelude.{ℕ, zero, suc, ◌+◌, ◌-◌, ◌*◌, max, Bool, true, false, not, ◌&&◌, ◌||◌, if◌then◌else◌, ◌==◌, List, [], ◌∷◌, ◌++◌, length, Option, Some, None}
 use Rattle.std.specs.List.{list_any, list_all}
 use Rattle.ceu_tree.specs.declared.kernel.Kernel.{Kernel}
@@ -121,11 +121,11 @@ loop_stay passing node k b standing body = elim (paced k b) [ Some e ↦ nothing
 abbrev pub without_one : Cost → Cost
 without_one a = cost (a.turns - 1) a.opens
 
-module _ (passing : List Bool) (event : ℕ → Cost) (entering : List Cost) where
+module _ (passing : List Bool) (events : List Cost) (entering : List Cost) where
   unfoldable mutual
     pub enter : ℕ → KStmt → Cost
     enter node (AwaitEvent e t) = cost 1 0
-    enter node (Emit e x) = event e
+    enter node (Emit e x) = cost_at e events
     enter node (Spawn c es p a) = plus (cost 2 1) (cost_at c entering)
     enter node (AwaitCode c es f t) = cost_at c entering
     enter node (Do t b) = enter_block b
@@ -204,7 +204,7 @@ unfoldable mutual
 abbrev pub node_waits : KNode → Bool
 node_waits n = stands_waiting n.stmt
 
-module _ (passing : List Bool) (event : ℕ → Cost) (entering staying : List Cost) where
+module _ (passing : List Bool) (events : List Cost) (entering staying : List Cost) where
   abbrev pub pools_stay : List KDecl → Cost
   pools_stay [] = nothing
   pools_stay (d ∷ ds) = elim d.kind [ kind.Var t ↦ pools_stay ds | kind.Alias c ↦ pools_stay ds | kind.Pool n c ↦ plus (times n (cost_at c staying)) (pools_stay ds) ]
@@ -219,7 +219,7 @@ module _ (passing : List Bool) (event : ℕ → Cost) (entering staying : List C
     stay node (Do t b) = stay_block b
     stay node (If' _ arms last) = most (stay_arms arms) (stay_block last)
     stay node (Par' k slot _ bs) = stay_blocks bs
-    stay node (Loop k b) = loop_stay passing node k b (stay_block b) (enter_block passing event entering b)
+    stay node (Loop k b) = loop_stay passing node k b (stay_block b) (enter_block passing events entering b)
     stay node _ = nothing
 
     pub stay_block : KBlock → Cost
@@ -231,7 +231,7 @@ module _ (passing : List Bool) (event : ℕ → Cost) (entering staying : List C
     -- the greatest, each with what follows it
     pub stay_nodes : {n : _} → Row_of-KNode n → Cost
     stay_nodes end_of-KNode = nothing
-    stay_nodes (more_of-KNode n p s rest) = if stands_waiting s then most (plus (stay n s) (enter_nodes passing event entering rest)) (stay_nodes rest) else stay_nodes rest
+    stay_nodes (more_of-KNode n p s rest) = if stands_waiting s then most (plus (stay n s) (enter_nodes passing events entering rest)) (stay_nodes rest) else stay_nodes rest
 
     pub stay_arms : {n : _} → Row_of-KArm n → Cost
     stay_arms end_of-KArm = nothing
@@ -246,26 +246,26 @@ module _ (passing : List Bool) (event : ℕ → Cost) (entering staying : List C
 
   abbrev pub stay_list : List KNode → Cost
   stay_list [] = nothing
-  stay_list (s ∷ ss) = if node_waits s then most (plus (stay_node s) (enter_list passing event entering ss)) (stay_list ss) else stay_list ss
+  stay_list (s ∷ ss) = if node_waits s then most (plus (stay_node s) (enter_list passing events entering ss)) (stay_list ss) else stay_list ss
 
 -- ---- what an emission costs
 
 -- the rest of a paced loop's body
-abbrev pub rest_cost : {n : _} → List Bool → (ℕ → Cost) → List Cost → Row_of-KNode n → Cost
-rest_cost passing event entering end_of-KNode = nothing
-rest_cost passing event entering (more_of-KNode n p s rest) = enter_nodes passing event entering rest
+abbrev pub rest_cost : {n : _} → List Bool → List Cost → List Cost → Row_of-KNode n → Cost
+rest_cost passing events entering end_of-KNode = nothing
+rest_cost passing events entering (more_of-KNode n p s rest) = enter_nodes passing events entering rest
 
-abbrev pub body_cost : List Bool → (ℕ → Cost) → List Cost → KBlock → Cost
-body_cost passing event entering (KBlock' n ds _ list) = rest_cost passing event entering list
+abbrev pub body_cost : List Bool → List Cost → List Cost → KBlock → Cost
+body_cost passing events entering (KBlock' n ds _ list) = rest_cost passing events entering list
 
 abbrev pub is_event : ℕ → Option ℕ → Bool
 is_event e None = false
 is_event e (Some f) = e == f
 
 -- one turn for each loop that the event paces in a body, and what it enters
-module _ (passing : List Bool) (event : ℕ → Cost) (entering : List Cost) (e : ℕ) where
+module _ (passing : List Bool) (events : List Cost) (entering : List Cost) (e : ℕ) where
   abbrev pub loop_woken : KLoop → KBlock → Cost
-  loop_woken k b = if is_event e (paced k b) then plus (cost 1 0) (body_cost passing event entering b) else nothing
+  loop_woken k b = if is_event e (paced k b) then plus (cost 1 0) (body_cost passing events entering b) else nothing
 
   unfoldable mutual
     pub woken : KStmt → Cost
@@ -342,43 +342,43 @@ abbrev pub instances_from : KBlock → ℕ → List KCode → List ℕ
 instances_from main k [] = []
 instances_from main k (c ∷ cs) = let later = instances_from main (k + 1) cs in (block_uses k main + held_by k cs later) ∷ later
 
-abbrev pub enters_from : List Bool → (ℕ → Cost) → List Cost → List KCode → List Cost
-enters_from passing event entering [] = entering
-enters_from passing event entering (c ∷ cs) = enters_from passing event (entering ++ enter_block passing event entering c.body ∷ []) cs
+abbrev pub enters_from : List Bool → List Cost → List Cost → List KCode → List Cost
+enters_from passing events entering [] = entering
+enters_from passing events entering (c ∷ cs) = enters_from passing events (entering ++ enter_block passing events entering c.body ∷ []) cs
 
-abbrev pub stays_from : List Bool → (ℕ → Cost) → List Cost → List Cost → List KCode → List Cost
-stays_from passing event entering staying [] = staying
-stays_from passing event entering staying (c ∷ cs) = stays_from passing event entering (staying ++ stay_block passing event entering staying c.body ∷ []) cs
-
-abbrev pub owner : ℕ → List KEvent → Option ℕ
-owner e [] = None
-owner zero (x ∷ xs) = x.code
-owner (suc e) (x ∷ xs) = owner e xs
+abbrev pub stays_from : List Bool → List Cost → List Cost → List Cost → List KCode → List Cost
+stays_from passing events entering staying [] = staying
+stays_from passing events entering staying (c ∷ cs) = stays_from passing events entering (staying ++ stay_block passing events entering staying c.body ∷ []) cs
 
 abbrev pub is_owner : ℕ → Option ℕ → Bool
 is_owner k None = false
 is_owner k (Some c) = c == k
 
 -- over the code bodies from number k on: an event of the body itself reaches one instance
-abbrev pub woken_codes : List Bool → (ℕ → Cost) → List Cost → ℕ → Option ℕ → ℕ → List KCode → List ℕ → Cost
-woken_codes passing event entering e own k [] ns = nothing
-woken_codes passing event entering e own k (c ∷ cs) [] = nothing
-woken_codes passing event entering e own k (c ∷ cs) (n ∷ ns) =
-    plus (times (if is_owner k own then 1 else n) (woken_block passing event entering e c.body)) (woken_codes passing event entering e own (k + 1) cs ns)
+abbrev pub woken_codes : List Bool → List Cost → List Cost → ℕ → Option ℕ → ℕ → List KCode → List ℕ → Cost
+woken_codes passing events entering e own k [] ns = nothing
+woken_codes passing events entering e own k (c ∷ cs) [] = nothing
+woken_codes passing events entering e own k (c ∷ cs) (n ∷ ns) =
+    plus (times (if is_owner k own then 1 else n) (woken_block passing events entering e c.body)) (woken_codes passing events entering e own (k + 1) cs ns)
+
+-- what an emission of each of these events, numbered from e on, costs where the emissions inside it cost `events`
+abbrev pub emissions_from : Kernel → List Bool → List Cost → List Cost → List ℕ → ℕ → List KEvent → List Cost
+emissions_from K passing events entering instances e [] = []
+emissions_from K passing events entering instances e (x ∷ xs) =
+    plus (cost 1 1) (plus (woken_block passing events entering e K.body) (woken_codes passing events entering e x.code 0 K.codes instances)) ∷ emissions_from K passing events entering instances (e + 1) xs
 
 -- Emissions reach one another along at most as many arrows as there are events.
-unfoldable pub emission : Kernel → ℕ → ℕ → Cost
-emission K zero e = cost 1 1
-emission K (suc n) e =
+unfoldable pub emissions : Kernel → ℕ → List Cost
+emissions K zero = []
+emissions K (suc n) =
     let passing = passes_from [] K.codes in
-    let event = emission K n in
-    let entering = enters_from passing event [] K.codes in
-    plus (cost 1 1) (plus (woken_block passing event entering e K.body) (woken_codes passing event entering e (owner e K.events) 0 K.codes (instances_from K.body 0 K.codes)))
+    let events = emissions K n in
+    emissions_from K passing events (enters_from passing events [] K.codes) (instances_from K.body 0 K.codes) 0 K.events
 
 unfoldable pub bounds : Kernel → Cost
 bounds K =
     let passing = passes_from [] K.codes in
-    let event = emission K (length K.events) in
-    let entering = enters_from passing event [] K.codes in
-    let staying = stays_from passing event entering [] K.codes in
-    most (plus (cost 1 0) (enter_block passing event entering K.body)) (stay_block passing event entering staying K.body)
+    let events = emissions K (length K.events) in
+    let entering = enters_from passing events [] K.codes in
+    let staying = stays_from passing events entering [] K.codes in
+    most (plus (cost 1 0) (enter_block passing events entering K.body)) (stay_block passing events entering staying K.body)

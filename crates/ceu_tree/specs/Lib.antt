@@ -16,3 +16,8 @@ pub mod Step
 pub mod Run
 pub mod Text
 pub mod Cut
+pub mod Marks
+pub mod Typing
+pub mod Numbering
+pub mod Mentions
+pub mod Proper
