@@ -1,5 +1,5 @@
 -- Whether a statement's last token is `end`, by the variants that a tree is made of.
-use Rattle.std.proofs.Common.{◌≡◌, refl, sym, ap, ◌∙◌, ℕ, Bool, true, false, List, [], ◌∷◌, Option, Some, None}
+use Rattle.std.proofs.Common.{◌≡◌, refl, ap, ◌∙◌, Bool, true, false, List, Option}
 use Rattle.ceu_tree.specs.declared.source.Block.{Block}
 use Rattle.ceu_tree.specs.declared.source.Source.{Source}
 use Rattle.ceu_tree.specs.declared.source.Arm.{Arm}

@@ -1,5 +1,5 @@
 -- Measures for recursions over a source tree: how many parts there are.
-use Rattle.std.proofs.Common.{◌≡◌, refl, sym, ap, ◌∙◌, ℕ, zero, suc, ◌+◌, ◌*◌, ◌<◌, length, get_or, arith, List, [], ◌∷◌, Option, Some, None}
+use Rattle.std.proofs.Common.{◌≡◌, refl, ℕ, suc, ◌+◌}
 use Rattle.ceu_base.specs.declared.kinds.Ty.{Ty}
 use Rattle.ceu_base.specs.declared.kinds.Op1.{Op1}
 use Rattle.ceu_base.specs.declared.kinds.Op2.{Op2}

@@ -1,5 +1,5 @@
 -- Measures for recursions over statements: how many parts there are.
-use Rattle.std.proofs.Common.{◌≡◌, refl, sym, ap, ◌∙◌, ℕ, zero, suc, ◌+◌, ◌-◌, ◌≤◌, ◌<◌, length, get_or, take, drop, arith, List, [], ◌∷◌, Option, Some, None}
+use Rattle.std.proofs.Common.{◌≡◌, refl, sym, ap, ◌∙◌, ℕ, suc, ◌+◌, ◌-◌, ◌≤◌, length, get_or, take, drop, arith, List, [], ◌∷◌, Option, Some, None}
 use Rattle.std.proofs.lemmas.List.{take_rest}
 use Rattle.ceu_tree.specs.declared.source.Block.{Block, Block', out-Block, Row_of-Node, end_of-Node, more_of-Node, items-the_row-Node, items_shown-the_row-Node-3}
 use Rattle.ceu_tree.specs.declared.source.Node.{Node}

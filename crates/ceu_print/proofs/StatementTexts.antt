@@ -1,5 +1,5 @@
 -- One level of the printed text of a statement, by the variants that a tree is made of.
-use Rattle.std.proofs.Common.{◌≡◌, refl, sym, ap, ◌∙◌, ℕ, ◌++◌, List, [], ◌∷◌, Option, Some, None, map, codes, append_assoc}
+use Rattle.std.proofs.Common.{◌≡◌, refl, sym, ap, ◌∙◌, ◌++◌, List, ◌∷◌, Option, Some, None, map, codes}
 use Rattle.std.specs.Prelude.{decimal}
 use Rattle.ceu_tree.specs.declared.source.Block.{Block, Block', out-Block, Row_of-Node, end_of-Node, more_of-Node, items-the_row-Node, items_shown-the_row-Node-3}
 use Rattle.ceu_tree.specs.declared.source.Do.{Do, Do', out-Do}
@@ -10,10 +10,10 @@ use Rattle.ceu_tree.specs.declared.source.Item.{Item, Held-Item-value, Item-valu
 use Rattle.ceu_tree.specs.declared.source.Stmt as stmt
 use Rattle.ceu_tree.specs.declared.source.Stmt.{Stmt, Row_of-Item, end_of-Item, more_of-Item, items-the_row-Item, items_hidden-the_row-Item-0, Row_of-Arm, end_of-Arm, more_of-Arm, items-the_row-Arm, items_hidden-the_row-Arm-1, Row_of-Block, end_of-Block, more_of-Block, items-the_row-Block, items_hidden-the_row-Block-2, back-Stmt-If-1}
 use Rattle.ceu_tree.specs.declared.source.Source.TheBlock.{hidden-the_row-Item-0, hidden-the_row-Arm-1, hidden-the_row-Block-2}
-use Rattle.ceu_print.specs.Lists.{Text, joined, all}
+use Rattle.ceu_print.specs.Lists.{Text, joined}
 use Rattle.ceu_print.specs.Words.{type_text, par_text, ident_text}
 use Rattle.ceu_print.specs.Expressions.{exp_text, spawn_text, await_text}
-use Rattle.ceu_print.specs.Statements.{start_text, names_text, emitted_text, left_text, answer_text, code_head, vars_head, target_head, do_head, loop_head, range_head, every_head, watching_head, async_head, inner_text, deeper, line_text, ends_in_end, stmt_text, source_text, value_text, do_text, body_text, block_text, arm_text, last_text, range_text, item_texts, arm_texts, block_texts, line_texts, if_value_text, item_text, arm_line, branch_text, else_text, node_line, lines_text}
+use Rattle.ceu_print.specs.Statements.{start_text, names_text, emitted_text, left_text, answer_text, code_head, vars_head, target_head, do_head, loop_head, range_head, every_head, watching_head, async_head, inner_text, deeper, line_text, ends_in_end, stmt_text, source_text, value_text, do_text, body_text, block_text, arm_text, last_text, range_text, item_texts, arm_texts, block_texts, line_texts, if_value_text, item_text, arm_line, branch_text, else_text, node_line}
 use denote.Hole.Carrier
 
 -- ---- rows and lists

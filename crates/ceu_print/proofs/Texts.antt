@@ -10,7 +10,7 @@ use Rattle.ceu_tree.specs.declared.source.ExpNode as exp
 use Rattle.ceu_tree.specs.declared.source.ExpNode.{ExpNode, Row_of-Exp, end_of-Exp, more_of-Exp, One', Two', As'}
 use Rattle.ceu_tree.specs.declared.source.ExpNode.TheBlock.{hidden-the_row-Exp-0}
 use Rattle.ceu_print.specs.Words.{truth_text, prefix_text, binary_text, level, ident_text, type_text}
-use Rattle.ceu_print.specs.Expressions.{node_text, operand_text, exp_text_at, tightness}
+use Rattle.ceu_print.specs.Expressions.{node_text, exp_text_at}
 use denote.Hole.Carrier
 
 pub text_number : (n : ℕ) → node_text (exp.Number n) ≡ decimal n

@@ -1,5 +1,5 @@
 -- The printed text of expressions, calls and awaits. Parentheses stand only where the tree needs them.
-use Rattle.std.specs.Prelude.{ℕ, suc, ◌++◌, Bool, true, false, List, [], ◌∷◌, Option, Some, None, if◌then◌else◌, nat_lt, map, codes, decimal}
+use Rattle.std.specs.Prelude.{ℕ, suc, ◌++◌, Bool, [], Option, Some, None, if◌then◌else◌, nat_lt, map, codes, decimal}
 use Rattle.ceu_tree.specs.declared.source.Exp.{Exp}
 use Rattle.ceu_tree.specs.declared.source.ExpNode as exp
 use Rattle.ceu_tree.specs.declared.source.ExpNode.{ExpNode, Row_of-Exp, end_of-Exp, more_of-Exp, One', Two', As'}

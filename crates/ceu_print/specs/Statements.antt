@@ -21,7 +21,7 @@ use Rattle.ceu_tree.specs.declared.source.Stmt.{Stmt, Vars', If', Par', Row_of-I
 use Rattle.ceu_tree.specs.declared.source.Tree.{Tree}
 use Rattle.ceu_print.specs.Lists.{Text, joined, all}
 use Rattle.ceu_print.specs.Words.{type_text, par_text, ident_text}
-use Rattle.ceu_print.specs.Expressions.{exp_text, call_text, spawn_text, target_text, await_text}
+use Rattle.ceu_print.specs.Expressions.{exp_text, spawn_text, target_text, await_text}
 
 -- ---- parts of statements
 

@@ -1,14 +1,13 @@
-use Rattle.std.proofs.Common.{◌≡◌, ◌++◌, ℕ, List, refl, sym, ap, ◌∙◌, map, codes, arith}
+use Rattle.std.proofs.Common.{◌≡◌, ◌++◌, List, sym, ap, ◌∙◌, map, codes, arith}
 use Rattle.std.specs.Prelude.{string_bytes}
 use Rattle.ceu_tree.specs.declared.source.Block.{out-Block}
 use Rattle.ceu_tree.specs.declared.source.Do.{out-Do}
 use Rattle.ceu_tree.specs.declared.source.Arm.{out-Arm}
 use Rattle.ceu_tree.specs.declared.source.Range.{out-Range}
 use Rattle.ceu_tree.specs.declared.source.Stmt.{Stmt}
-use Rattle.ceu_print.specs.Lists.{joined, each_after, all}
-use Rattle.ceu_print.specs.Words.{par_text}
+use Rattle.ceu_print.specs.Lists.{joined}
 use Rattle.ceu_print.specs.Expressions.{exp_text}
-use Rattle.ceu_print.specs.Statements.{stmt_text, source_text, do_text, range_text, body_text, block_text, arm_text, arm_line, branch_text, item_text, node_line, lines_text, else_text, inner_text, deeper, do_head, range_head, vars_head, code_head, target_head, loop_head, every_head, watching_head, async_head}
+use Rattle.ceu_print.specs.Statements.{stmt_text, source_text, do_text, range_text, body_text, block_text, arm_text, arm_line, branch_text, item_text, node_line, lines_text, else_text, deeper, do_head, range_head, vars_head, code_head, target_head, loop_head, every_head, watching_head, async_head}
 use Rattle.ceu_print.proofs.Chains.{one_more, last_one, each_step, lines_step, fewer_left}
 use Rattle.ceu_print.proofs.StatementSizes.{item_size, arm_size, body_size, node_size, total_size}
 use Rattle.ceu_print.proofs.StatementTexts.{text_block, text_body, text_do, text_arm, text_range_of, text_vars, text_code, text_assign, text_finalize, text_if, text_loop, text_every, text_watching, text_par, text_async}

@@ -1,4 +1,4 @@
-use Rattle.std.proofs.Common.{◌≡◌, ℕ, suc, ◌++◌, ◌≤◌, ◌<◌, length, map, codes}
+use Rattle.std.proofs.Common.{◌≡◌, suc, ◌++◌, ◌≤◌, ◌<◌, length, map, codes}
 use Rattle.std.specs.Prelude.{string_bytes}
 use Rattle.ceu_tree.specs.declared.source.Block.{out-Block}
 use Rattle.ceu_print.specs.Lists.{each_after}
