@@ -150,5 +150,7 @@ fn codes_depth(codes: &[KCode]) -> u32
 pub fn depth(kernel: &Kernel) -> u32
     ensures { result ≡ cut (spec.depth kernel.now) }
 {
-    block_depth(&kernel.body).max(codes_depth(kernel.codes.items())).max(1)
+    block_depth(&kernel.body)
+        .max(codes_depth(kernel.codes.items()))
+        .max(1)
 }

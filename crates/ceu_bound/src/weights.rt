@@ -17,7 +17,9 @@ fn exp_count(exp: &KExp) -> u32
 {
     match &exp.node {
         KExpNode::One(_, a) => exp_count(a.get()).saturating_add(1),
-        KExpNode::Two(_, a, b) => exp_count(a.get()).saturating_add(exp_count(b.get())).saturating_add(1),
+        KExpNode::Two(_, a, b) => exp_count(a.get())
+            .saturating_add(exp_count(b.get()))
+            .saturating_add(1),
         KExpNode::As(a) => exp_count(a.get()).saturating_add(1),
         KExpNode::Const(_) => 1,
         KExpNode::Read(_) => 1,
@@ -46,7 +48,9 @@ fn loop_weight(kind: &KLoop) -> u32
     ensures { result ≡ cut (spec.loop_weight kind.now) }
 {
     match kind {
-        KLoop::Range(_, _, _, _, a, b, _) => PART.saturating_add(exp_weight(a)).saturating_add(exp_weight(b)),
+        KLoop::Range(_, _, _, _, a, b, _) => PART
+            .saturating_add(exp_weight(a))
+            .saturating_add(exp_weight(b)),
         KLoop::Free => 0,
         KLoop::Times(_, _) => 0,
     }
@@ -126,7 +130,8 @@ fn nodes_weight(nodes: &[KNode]) -> u32
 fn arm_weight(arm: &KArm) -> u32
     ensures { result ≡ cut (spec.arm_weight arm.now) }
 {
-    PART.saturating_add(exp_weight(&arm.cond)).saturating_add(block_weight(&arm.body))
+    PART.saturating_add(exp_weight(&arm.cond))
+        .saturating_add(block_weight(&arm.body))
 }
 
 #[cycle(weigh)]
@@ -182,5 +187,7 @@ pub fn weight(kernel: &Kernel) -> u32
     let outputs = parts_weight(kernel.outputs.items().len());
     let events = parts_weight(kernel.events.items().len());
     let ports = inputs.saturating_add(outputs).saturating_add(events);
-    block_weight(&kernel.body).saturating_add(codes_weight(kernel.codes.items())).saturating_add(ports)
+    block_weight(&kernel.body)
+        .saturating_add(codes_weight(kernel.codes.items()))
+        .saturating_add(ports)
 }

@@ -24,6 +24,7 @@ pools_cut G (d ∷ ds) = same_plus (pool_gates (map cut G) d.kind) (pool_gates G
 module _ (G : List ℕ) where
   mutual
     unfolding stmt_gates
+
     stmt_cut : (s : KStmt) → cut (stmt_gates (map cut G) s) ≡ cut (stmt_gates G s)
     stmt_cut (AwaitCode c es f t) = ap cut (entry_cut c G) ∙ cut_idem (entry c G)
     stmt_cut (Do t b) = block_cut b
@@ -35,7 +36,7 @@ module _ (G : List ℕ) where
     pub block_cut : (b : KBlock) → cut (block_gates (map cut G) b) ≡ cut (block_gates G b)
     block_cut (KBlock' n ds _ list) = same_max 1 1 (nodes_finalizers list + pools_gates (map cut G) ds + nodes_gates (map cut G) list) (nodes_finalizers list + pools_gates G ds + nodes_gates G list) refl
         (same_plus (nodes_finalizers list + pools_gates (map cut G) ds) (nodes_finalizers list + pools_gates G ds) (nodes_gates (map cut G) list) (nodes_gates G list)
-            (same_plus (nodes_finalizers list) (nodes_finalizers list) (pools_gates (map cut G) ds) (pools_gates G ds) refl (pools_cut G ds)) (nodes_cut list))
+        (same_plus (nodes_finalizers list) (nodes_finalizers list) (pools_gates (map cut G) ds) (pools_gates G ds) refl (pools_cut G ds)) (nodes_cut list))
 
     arm_cut : (a : KArm) → cut (arm_gates (map cut G) a) ≡ cut (arm_gates G a)
     arm_cut (KArm' c b) = block_cut b

@@ -29,6 +29,7 @@ decls_cut F (d ∷ ds) = same_plus (decl_size (map cut F) d.kind) (decl_size F d
 module _ (plain : Bool) (F : List ℕ) where
   mutual
     unfolding stmt_need
+
     stmt_cut : (s : KStmt) → cut (stmt_need plain (map cut F) s) ≡ cut (stmt_need plain F s)
     stmt_cut (AwaitCode c es f t) = ap cut (entry_cut c F) ∙ cut_idem (entry c F)
     stmt_cut (Async b) = block_cut b

@@ -6,7 +6,9 @@ ghost use Rattle.ceu_tree.specs.Greatest.{total};
 ghost use Rattle.ceu_tree.specs.Needs as spec;
 
 use ceu_base::Ty;
-use ceu_tree::{KArm, KBlock, KCode, KDecl, KKind, KLoop, KNode, KStmt, Kernel, ParKind, entry, greatest};
+use ceu_tree::{
+    KArm, KBlock, KCode, KDecl, KKind, KLoop, KNode, KStmt, Kernel, ParKind, entry, greatest,
+};
 use std::alloc::{AllocError, Global};
 
 fn type_size(ty: Ty) -> u32
@@ -82,9 +84,18 @@ fn stmt_need(plain: bool, frames: &[u32], stmt: &KStmt) -> u32
         KStmt::AwaitCode(code, _, _, _) => entry(frames, *code),
         KStmt::Async(body) => block_need(plain, frames, body),
         KStmt::Do(_, body) => block_need(plain, frames, body),
-        KStmt::If(arms, last) => apart(plain, arms_need(plain, frames, arms.items()), block_need(plain, frames, last)),
+        KStmt::If(arms, last) => apart(
+            plain,
+            arms_need(plain, frames, arms.items()),
+            block_need(plain, frames, last),
+        ),
         KStmt::Loop(kind, body) => loop_size(kind).saturating_add(block_need(plain, frames, body)),
-        KStmt::Par(kind, _, branches) => branches_need(plain, frames, branch_size(*kind), branches.items()),
+        KStmt::Par(kind, _, branches) => branches_need(
+            plain,
+            frames,
+            branch_size(*kind),
+            branches.items(),
+        ),
         KStmt::Nothing => 0,
         KStmt::Assign(_, _) => 0,
         KStmt::Out(_, _) => 0,
@@ -108,7 +119,11 @@ fn stmt_need(plain: bool, frames: &[u32], stmt: &KStmt) -> u32
 fn block_need(plain: bool, frames: &[u32], block: &KBlock) -> u32
     ensures { result ≡ cut (spec.block_need plain frames.now block.now) }
 {
-    decls_size(frames, block.decls.items()).saturating_add(nodes_need(plain, frames, block.list.items()))
+    decls_size(frames, block.decls.items()).saturating_add(nodes_need(
+        plain,
+        frames,
+        block.list.items(),
+    ))
 }
 
 #[cycle(need)]
