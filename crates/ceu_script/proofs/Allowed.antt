@@ -1,6 +1,6 @@
 -- A command that a line gives is one that the program takes.
 use Rattle.std.proofs.Common.{◌≡◌, ℕ, ◌<◌, ◌≤◌, Bool, true, false, cond, ◌&&◌, List, [], ◌∷◌, length, get_or, drop, Option, Some, None, Result, Ok, Err, refl, arith}
-use Rattle.std.specs.Prelude.{ℤ, pos, negsuc, int_le, nat_eq, nat_lt, unsigned_abs, codes, IsTrue}
+use Rattle.std.specs.Prelude.{ℤ, pos, negsuc, int_le, nat_eq, nat_lt, unsigned_abs, codes, IsTrue, not, IfOk}
 use Rattle.std.specs.List.{position_or_len}
 use Rattle.std.specs.Str.{bytes_eq}
 use Rattle.std.proofs.lemmas.Bool.Decides.{nat_tests}
@@ -28,8 +28,8 @@ Allowed inputs (Ok command) = IsCommand inputs command
 Allowed inputs (Err k) = Unit {0}
 
 allowed_if : (inputs : List Port) (t : Bool) (a b : Result Command BadKind) → Allowed inputs a → Allowed inputs b → Allowed inputs (cond t a b)
-allowed_if inputs true a b yes no = yes
-allowed_if inputs false a b yes no = no
+allowed_if inputs true a b p q = p
+allowed_if inputs false a b p q = q
 
 -- ---- times
 
@@ -38,8 +38,8 @@ TimeFits (Ok (Time us)) = us < 9223372036854775808
 TimeFits other = Unit {0}
 
 fits_if : (t : Bool) (a b : Result TokenKind Rule) → TimeFits a → TimeFits b → TimeFits (cond t a b)
-fits_if true a b yes no = yes
-fits_if false a b yes no = no
+fits_if true a b p q = p
+fits_if false a b p q = q
 
 fits_both : (a b : Bool) (n : ℕ) → (b ≡ true → n < 9223372036854775808) → TimeFits (cond (a && b) (Ok (Time n)) (Err L4))
 fits_both true true n fits = fits refl
@@ -103,8 +103,8 @@ of_type_fits ty None = tt
 of_type_fits ty (Some v) = kept ty v (is_value ty v) refl
 
 fits_when : (ty : Ty) (t : Bool) (a b : Option ℤ) → ValueFits ty a → ValueFits ty b → ValueFits ty (cond t a b)
-fits_when ty true a b yes no = yes
-fits_when ty false a b yes no = no
+fits_when ty true a b p q = p
+fits_when ty false a b p q = q
 
 value_fits : (ty : Ty) (word : List ℕ) → ValueFits ty (value ty word)
 value_fits type.None word = fits_when type.None (nat_eq (length word) 0) (Some (pos 0)) None refl tt
@@ -145,17 +145,15 @@ of_event_allowed inputs None word here = tt
 
 -- ---- lines
 
-words_allowed : (first second : List ℕ) (inputs : List Port) → Allowed inputs (of_words first second inputs)
+pub words_allowed : (first second : List ℕ) (inputs : List Port) → Allowed inputs (of_words first second inputs)
 words_allowed [] second inputs = tt
 words_allowed (b ∷ first) second inputs =
-    allowed_if inputs (nat_eq b 43) (cond (nat_eq (length second) 0 && cond (nat_eq (length first) 0) false true) (advance first) (Err kind.Form)) (named (b ∷ first) second inputs)
-        (allowed_if inputs (nat_eq (length second) 0 && cond (nat_eq (length first) 0) false true) (advance first) (Err kind.Form) (of_time_allowed inputs (literal first) (literal_fits first)) tt)
+    allowed_if inputs (nat_eq b 43) (cond (nat_eq (length second) 0 && not (nat_eq (length first) 0)) (advance first) (Err kind.Form)) (named (b ∷ first) second inputs)
+        (allowed_if inputs (nat_eq (length second) 0 && not (nat_eq (length first) 0)) (advance first) (Err kind.Form) (of_time_allowed inputs (literal first) (literal_fits first)) tt)
         (allowed_if inputs (bytes_eq (b ∷ first) (codes "idle")) (idle second) (cond (is_event_name (b ∷ first)) (input (b ∷ first) second inputs) (Err kind.Form))
             (idle_allowed inputs second)
             (allowed_if inputs (is_event_name (b ∷ first)) (input (b ∷ first) second inputs) (Err kind.Form) (of_event_allowed inputs (input_named (b ∷ first) inputs) second (named_fits (b ∷ first) inputs)) tt))
 
-pub command_allowed : (text : List ℕ) (inputs : List Port) → Allowed inputs (command_of text inputs)
-unfolding command_of
-command_allowed text inputs =
-    let rest = after_word text in
-    allowed_if inputs (nat_lt (leading_blanks (after_word rest)) (length (after_word rest))) (Err kind.Form) (of_words (first_word text) (first_word rest) inputs) tt (words_allowed (first_word text) (first_word rest) inputs)
+pub if_ok_allowed : (inputs : List Port) (answer : Result Command BadKind) → Allowed inputs answer → IfOk answer (IsCommand inputs)
+if_ok_allowed inputs (Ok command) allowed = allowed
+if_ok_allowed inputs (Err k) allowed = tt
