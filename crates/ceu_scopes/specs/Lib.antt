@@ -3,3 +3,5 @@ pub mod Shown
 pub mod Walk
 pub mod Rules
 pub mod Names
+pub mod Parts
+pub mod Answers

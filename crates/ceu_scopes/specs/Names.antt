@@ -44,9 +44,9 @@ use Rattle.ceu_scopes.specs.declared.scope.Border.{Border}
 use Rattle.ceu_scopes.specs.declared.scope.Border.TheVariants.{Plain, Async, Body}
 use Rattle.ceu_scopes.specs.declared.scope.Scope.{Scope}
 use Rattle.ceu_scopes.specs.declared.walk.Walk.{Walk}
-use Rattle.ceu_scopes.specs.Shown.{added}
-use Rattle.ceu_scopes.specs.Walk.{Broken, Step, ◌>>=◌, opened, closed, shown, fresh}
-use Rattle.ceu_scopes.specs.Rules.{checked, used, named, nothing_besides, and_on, pool_broken, set_broken, inside_broken, declared, label_broken}
+use Rattle.ceu_scopes.specs.Shown.{added, rest_of}
+use Rattle.ceu_scopes.specs.Walk.{Broken, Step, ◌>>=◌, each, opened, closed, shown, fresh}
+use Rattle.ceu_scopes.specs.Rules.{checked, used, named, pool_used, alias_used, set_broken, inside_broken, declared, label_broken}
 
 -- ---- expressions
 
@@ -68,8 +68,7 @@ abbrev pub exp_walked : Exp → Walk → Step
 exp_walked e w = node_walked e.node w
 
 abbrev pub exps_walked : List Exp → Walk → Step
-exps_walked [] w = Ok w
-exps_walked (e ∷ es) w = exp_walked e w >>= exps_walked es
+exps_walked es w = each exp_walked es w
 
 abbrev pub if_exp_walked : Option Exp → Walk → Step
 if_exp_walked None w = Ok w
@@ -82,10 +81,10 @@ call_walked c w = named role.Code c.code w >>= exps_walked c.args
 
 -- the arguments of a spawn and its pool, which holds the code that is spawned
 abbrev pub spawned : Spawn → Known × Walk → Step
-spawned s (code, w) = exps_walked s.call.args w >>= used role.Pool (pool_broken code.number) s.pool >>= and_on
+spawned s (code, w) = exps_walked s.call.args w >>= pool_used code.number s.pool
 
 abbrev pub spawn_walked : Spawn → Walk → Step
-spawn_walked s w = used role.Code nothing_besides s.call.code w >>= spawned s
+spawn_walked s w = used role.Code s.call.code w >>= spawned s
 
 abbrev pub if_spawn_walked : Option Spawn → Walk → Step
 if_spawn_walked None w = Ok w
@@ -104,21 +103,15 @@ await_walked (await.On t until) w = target_walked t w >>= if_exp_walked until
 
 -- ---- declarations
 
--- names that the item itself declares, as events, inputs and outputs
+-- a name that is shown as soon as it is declared
 abbrev pub ident_declared : Class → Ty → Option Rule → Ident → Walk → Step
 ident_declared c t besides x w = declared c t besides x w >>= shown x (fresh c 0 w)
 
-abbrev pub events_declared : Ty → List Ident → Walk → Step
-events_declared t [] w = Ok w
-events_declared t (x ∷ xs) w = ident_declared class.Event t None x w >>= events_declared t xs
+abbrev pub port_declared : Class → Ty → Ident → Walk → Step
+port_declared c t x w = ident_declared c t (inside_broken w.scopes) x w
 
-abbrev pub ports_declared : Class → Ty → List Ident → Walk → Step
-ports_declared c t [] w = Ok w
-ports_declared c t (x ∷ xs) w = ident_declared c t (inside_broken w.scopes) x w >>= ports_declared c t xs
-
-abbrev pub params_declared : List Param → Walk → Step
-params_declared [] w = Ok w
-params_declared (p ∷ ps) w = ident_declared class.Param p.ty None p.name w >>= params_declared ps
+abbrev pub param_declared : Param → Walk → Step
+param_declared p w = ident_declared class.Param p.ty None p.name w
 
 abbrev pub pool_declared : Ident → Known × Walk → Step
 pool_declared x (code, w) = declared class.Pool ty.None None x w >>= shown x (fresh class.Pool code.number w)
@@ -133,6 +126,12 @@ alias_declared x start (code, w) =
     let alias = fresh class.Alias code.number w in
     declared class.Alias ty.None (start_broken w.scopes start alias) x w >>= if_spawn_walked start >>= shown x alias
 
+abbrev pub pool_walked : Ident → Ident → Walk → Step
+pool_walked code x w = used role.Code code w >>= pool_declared x
+
+abbrev pub alias_walked : Ident → Ident → Option Spawn → Walk → Step
+alias_walked code x start w = used role.Code code w >>= alias_declared x start
+
 -- a variable takes no spawn as its value
 abbrev pub value_broken : Held-Item-value → Option Rule
 value_broken (Item-value-Some' (source.Start s)) = Some N3
@@ -141,7 +140,7 @@ value_broken _ = None
 -- ---- forms with a block of their own around the body, labels, lists
 
 abbrev pub params_opened : List ℕ → List Param → Walk → Step
-params_opened name ps w = params_declared ps (opened (Body name) w)
+params_opened name ps w = each param_declared ps (opened (Body name) w)
 
 abbrev pub range_opened : Ident → Walk → Step
 range_opened x w = ident_declared class.LoopVar ty.S32 None x (opened Plain w)
@@ -149,10 +148,6 @@ range_opened x w = ident_declared class.LoopVar ty.S32 None x (opened Plain w)
 abbrev pub labelled : Label → Walk → Walk
 labelled (label.Named l) w = record w { labels = l.name ∷ w.labels }
 labelled _ w = w
-
-abbrev pub rest_of : List (List ℕ) → List (List ℕ)
-rest_of [] = []
-rest_of (l ∷ outside) = outside
 
 abbrev pub unlabelled : Label → Walk → Step
 unlabelled (label.Named l) w = Ok (record w { labels = rest_of w.labels })
@@ -165,9 +160,31 @@ escape_walked (Some l) w = checked (label_broken w.labels l) l.pos w
 abbrev pub list_with : List ℕ → Known × Walk → Result (List ℕ × Walk) Broken
 list_with ns (k, w) = Ok (added ns k.number, w)
 
+-- a name in the list of an async, with the numbers of those before it
+abbrev pub name_listed : Ident → List ℕ × Walk → Result (List ℕ × Walk) Broken
+name_listed x (ns, w) = used role.Listed x w >>= list_with ns
+
 abbrev pub list_walked : List Ident → List ℕ × Walk → Result (List ℕ × Walk) Broken
-list_walked [] p = Ok p
-list_walked (x ∷ xs) (ns, w) = used role.Listed nothing_besides x w >>= list_with ns >>= list_walked xs
+list_walked xs p = each name_listed xs p
+
+-- the target of an assignment: a spawn sets an alias, all else a variable
+abbrev pub target_assigned : Source → Ident → Walk → Step
+target_assigned (source.Start s) x w = alias_used s x w
+target_assigned _ x w = named role.Written x w
+
+abbrev pub emit_walked : Ident → Option Exp → Walk → Step
+emit_walked x e w = named role.Emitted x w >>= if_exp_walked e
+
+abbrev pub leave_walked : Option Ident → Option Exp → Walk → Step
+leave_walked l e w = escape_walked l w >>= if_exp_walked e
+
+-- the head of code: its name, and the block of its parameters
+abbrev pub code_opened : Ident → List Param → Ty → Walk → Step
+code_opened x ps t w = declared class.Code t (inside_broken w.scopes) x w >>= params_opened x.name ps
+
+abbrev pub every_walked : Option Ident → Target → Walk → Step
+every_walked None t w = target_walked t w
+every_walked (Some x) t w = named role.Written x w >>= target_walked t
 
 -- ---- statements
 
@@ -177,27 +194,25 @@ unfoldable mutual
   stmt_walked stmt.Break w = Ok w
   stmt_walked stmt.Continue w = Ok w
   stmt_walked (Vars' t _ items) w = items_walked items t w
-  stmt_walked (stmt.AliasDecl code x start) w = used role.Code nothing_besides code w >>= alias_declared x start
-  stmt_walked (stmt.Events t xs) w = events_declared t xs w
-  stmt_walked (stmt.Inputs t xs) w = ports_declared class.Input t xs w
-  stmt_walked (stmt.Outputs t xs) w = ports_declared class.Output t xs w
-  stmt_walked (stmt.Pool n code x) w = used role.Code nothing_besides code w >>= pool_declared x
+  stmt_walked (stmt.AliasDecl code x start) w = alias_walked code x start w
+  stmt_walked (stmt.Events t xs) w = each (ident_declared class.Event t None) xs w
+  stmt_walked (stmt.Inputs t xs) w = each (port_declared class.Input t) xs w
+  stmt_walked (stmt.Outputs t xs) w = each (port_declared class.Output t) xs w
+  stmt_walked (stmt.Pool n code x) w = pool_walked code x w
   stmt_walked (stmt.Code x ps t b) w =
-      declared class.Code t (inside_broken w.scopes) x w >>= params_opened x.name ps >>= block_walked b Plain >>= closed
-      >>= shown x (fresh class.Code 0 w)
-  stmt_walked (stmt.Assign x s) w = assign_walked s x w
-  stmt_walked (stmt.Emit x e) w = named role.Emitted x w >>= if_exp_walked e
+      code_opened x ps t w >>= block_walked b Plain >>= closed >>= shown x (fresh class.Code 0 w)
+  stmt_walked (stmt.Assign x s) w = target_assigned s x w >>= source_walked s
+  stmt_walked (stmt.Emit x e) w = emit_walked x e w
   stmt_walked (stmt.Await a) w = await_walked a w
   stmt_walked (stmt.Spawn s) w = spawn_walked s w
   stmt_walked (stmt.Kill x) w = named role.Alias x w
-  stmt_walked (stmt.Escape l e) w = escape_walked l w >>= if_exp_walked e
+  stmt_walked (stmt.Escape l e) w = leave_walked l e w
   stmt_walked (stmt.Do d) w = do_walked d w
   stmt_walked (stmt.Finalize b) w = block_walked b Plain w
   stmt_walked (If' _ arms last) w = arms_walked arms w >>= last_walked last
   stmt_walked (stmt.Loop n b) w = block_walked b Plain w
   stmt_walked (stmt.Range r) w = range_walked r w
-  stmt_walked (stmt.Every None t b) w = target_walked t w >>= block_walked b Plain
-  stmt_walked (stmt.Every (Some x) t b) w = named role.Written x w >>= target_walked t >>= block_walked b Plain
+  stmt_walked (stmt.Every x t b) w = every_walked x t w >>= block_walked b Plain
   stmt_walked (stmt.Watching t b) w = target_walked t w >>= block_walked b Plain
   stmt_walked (Par' kind _ bs) w = blocks_walked bs w
   stmt_walked (stmt.Async xs b) w = list_walked xs ([], w) >>= (λ listed. block_walked b (Async listed.0) listed.1)
@@ -208,13 +223,6 @@ unfoldable mutual
   source_walked (source.Wait a) w = await_walked a w
   source_walked (source.Start s) w = spawn_walked s w
   source_walked (source.Done d) w = do_walked d w
-
-  -- a spawn sets an alias, all else a variable
-  pub assign_walked : Source → Ident → Walk → Step
-  assign_walked (source.Value e) x w = named role.Written x w >>= exp_walked e
-  assign_walked (source.Wait a) x w = named role.Written x w >>= await_walked a
-  assign_walked (source.Start s) x w = used role.Alias (set_broken w.scopes s) x w >>= and_on >>= spawn_walked s
-  assign_walked (source.Done d) x w = named role.Written x w >>= do_walked d
 
   pub value_walked : Held-Item-value → Walk → Step
   value_walked Item-value-None' w = Ok w
@@ -252,6 +260,10 @@ unfoldable mutual
   pub nodes_walked : {n : _} → Row_of-Node n → Walk → Step
   nodes_walked end_of-Node w = Ok w
   nodes_walked (more_of-Node p s rest) w = stmt_walked s w >>= nodes_walked rest
+
+-- the body of an async, behind its list
+abbrev pub async_walked : Block → List ℕ × Walk → Step
+async_walked b (ns, w) = block_walked b (Async ns) w
 
 -- ---- programs
 

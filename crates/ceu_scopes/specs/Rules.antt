@@ -89,33 +89,32 @@ use_broken r scopes k =
     else if needs_list r && not (is_listed scopes k) then Some N6
     else None
 
--- the lower rule, where both stand at one place
-abbrev pub first : Option Rule → Option Rule → Option Rule
-first (Some r) more = Some r
-first None more = more
+abbrev pub judged : Role → List Scope → Pos → Result Known Rule → Result Known Broken
+judged r scopes place (Err n) = Err (n, place)
+judged r scopes place (Ok k) = checked (use_broken r scopes k) place k
 
--- the declaration that a use has, unless the use breaks a rule of its own or the one that is asked besides
-abbrev pub judged : Role → (Known → Option Rule) → List Scope → Pos → Result Known Rule → Result Known Broken
-judged r besides scopes place (Err n) = Err (n, place)
-judged r besides scopes place (Ok k) = checked (first (use_broken r scopes k) (besides k)) place k
+-- the declaration of a name that is used for this
+unfoldable pub resolved : Role → List Scope → Ident → Result Known Broken
+resolved r scopes x = judged r scopes x.pos (decl_of scopes x)
 
--- the declaration of a use is put at the end of the list of uses
-abbrev pub listed_use : Walk → Known → Result (Known × Walk) Broken
-listed_use w k = Ok (k, record w { uses = w.uses ++ k.number ∷ [] })
+-- a rule that is asked of the declaration besides
+abbrev pub asked : (Known → Option Rule) → Pos → Known → Result Known Broken
+asked rule place k = checked (rule k) place k
+
+-- the declaration is put at the end of the list of uses
+abbrev pub noted : Walk → Known → Result (Known × Walk) Broken
+noted w k = Ok (k, record w { uses = w.uses ++ k.number ∷ [] })
 
 -- a use of a name
-abbrev pub used : Role → (Known → Option Rule) → Ident → Walk → Result (Known × Walk) Broken
-used r besides x w = judged r besides w.scopes x.pos (decl_of w.scopes x) >>= listed_use w
-
-abbrev pub nothing_besides : Known → Option Rule
-nothing_besides k = None
+unfoldable pub used : Role → Ident → Walk → Result (Known × Walk) Broken
+used r x w = resolved r w.scopes x >>= noted w
 
 abbrev pub and_on : Known × Walk → Step
 and_on (k, w) = Ok w
 
 -- a use of which only the place in the list counts
-abbrev pub named : Role → Ident → Walk → Step
-named r x w = used r nothing_besides x w >>= and_on
+unfoldable pub named : Role → Ident → Walk → Step
+named r x w = used r x w >>= and_on
 
 -- ---- spawns
 
@@ -136,6 +135,14 @@ alias_broken _ _ alias = None
 abbrev pub set_broken : List Scope → Spawn → Known → Option Rule
 set_broken scopes s alias = alias_broken (decl_of scopes s.call.code) (decl_of scopes s.pool) alias
 
+-- the pool that a spawn takes a place in
+unfoldable pub pool_used : ℕ → Ident → Walk → Step
+pool_used code x w = resolved role.Pool w.scopes x >>= asked (pool_broken code) x.pos >>= noted w >>= and_on
+
+-- the alias that a spawn sets
+unfoldable pub alias_used : Spawn → Ident → Walk → Step
+alias_used s x w = resolved role.Alias w.scopes x >>= asked (set_broken w.scopes s) x.pos >>= noted w >>= and_on
+
 -- ---- declarations
 
 -- the name is declared in the innermost block already
@@ -149,7 +156,7 @@ inside_broken (s ∷ []) = None
 inside_broken (s ∷ t ∷ outside) = Some N3
 
 -- a declaration, with one more rule to ask at its name
-abbrev pub declared : Class → Ty → Option Rule → Ident → Walk → Step
+unfoldable pub declared : Class → Ty → Option Rule → Ident → Walk → Step
 declared c ty besides x w =
     checked (if is_taken w.scopes x.name then Some N2 else besides) x.pos
     (record w { decls = w.decls ++ record { class = c; ty = ty; pos = x.pos; block = block_of w.scopes; name = x.name } ∷ [] })

@@ -19,3 +19,8 @@ is_among n ns = list_any (nat_eq n) ns
 -- the numbers that an async lists, each once
 abbrev pub added : List ℕ → ℕ → List ℕ
 added ns n = if is_among n ns then ns else ns ++ n ∷ []
+
+-- a list without its first item
+abbrev pub rest_of : {A : Type 0} → List A → List A
+rest_of [] = []
+rest_of (x ∷ xs) = xs

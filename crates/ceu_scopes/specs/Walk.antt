@@ -17,7 +17,7 @@ use Rattle.ceu_scopes.specs.declared.scope.Border.{Border}
 use Rattle.ceu_scopes.specs.declared.scope.Border.TheVariants.{Plain, Async, Body}
 use Rattle.ceu_scopes.specs.declared.scope.Scope.{Scope}
 use Rattle.ceu_scopes.specs.declared.walk.Walk.{Walk}
-use Rattle.ceu_scopes.specs.Shown.{found, entered, is_among}
+use Rattle.ceu_scopes.specs.Shown.{found, entered, is_among, rest_of}
 
 -- a rule that is broken, and where
 abbrev pub Broken : Type 0
@@ -29,9 +29,14 @@ Step = Result Walk Broken
 
 -- the second step, where the first breaks no rule
 infixl 10 ◌>>=◌
-abbrev pub ◌>>=◌ : {A B E : Type 0} → Result A E → (A → Result B E) → Result B E
+unfoldable pub ◌>>=◌ : {A B E : Type 0} → Result A E → (A → Result B E) → Result B E
 Ok x >>= f = f x
 Err e >>= f = Err e
+
+-- a step for each item of a list, in order
+unfoldable pub each : {A S : Type 0} → (A → S → Result S Broken) → List A → S → Result S Broken
+each f [] s = Ok s
+each f (x ∷ xs) s = f x s >>= each f xs
 
 -- ---- what is visible
 
@@ -116,20 +121,16 @@ is_listed (s ∷ outside) k = (s.block == k.block) || (admits s.border k.number 
 -- ---- blocks
 
 -- a new block around what follows
-abbrev pub opened : Border → Walk → Walk
+unfoldable pub opened : Border → Walk → Walk
 opened border w =
     record w {
       scopes = record { block = w.blocks; border = border; names = [] } ∷ w.scopes;
       blocks = w.blocks + 1;
     }
 
-abbrev pub outside_of : List Scope → List Scope
-outside_of [] = []
-outside_of (s ∷ outside) = outside
-
 -- the innermost block ends
-abbrev pub closed : Walk → Step
-closed w = Ok (record w { scopes = outside_of w.scopes })
+unfoldable pub closed : Walk → Step
+closed w = Ok (record w { scopes = rest_of w.scopes })
 
 -- the number of the innermost block
 abbrev pub block_of : List Scope → ℕ
@@ -146,9 +147,9 @@ with_name x k [] = []
 with_name x k (s ∷ outside) = record s { names = entered s.names x k } ∷ outside
 
 -- from here on the innermost block shows the name
-abbrev pub shown : Ident → Known → Walk → Step
+unfoldable pub shown : Ident → Known → Walk → Step
 shown x k w = Ok (record w { scopes = with_name x.name k w.scopes })
 
 -- the declaration that comes next in the text, with this class and, for a pool or an alias, this code
-abbrev pub fresh : Class → ℕ → Walk → Known
+unfoldable pub fresh : Class → ℕ → Walk → Known
 fresh c code w = record { number = length w.decls; class = c; code = code; block = block_of w.scopes }

@@ -136,3 +136,13 @@ pub fn is_listed(scopes: &[Scope], known: Known) -> bool
         }
     }
 }
+
+/// The number of the innermost block.
+pub fn block_of(scopes: &[Scope]) -> u32
+    ensures { result ≡ spec.block_of (reverse scopes.now) }
+{
+    match scopes.split_last() {
+        None => 0,
+        Some((scope, _)) => scope.block,
+    }
+}

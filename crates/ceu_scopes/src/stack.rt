@@ -1,4 +1,5 @@
-ghost use Rattle.std.specs.Prelude.{◌≡◌, [], ◌∷◌, ◌++◌, reverse, option_to_list, OnOk};
+ghost use Rattle.std.specs.Prelude.{◌≡◌, [], ◌∷◌, reverse, MatchOption, OnOk};
+ghost use Rattle.ceu_scopes.specs.Shown.{rest_of};
 
 use std::alloc::{AllocFailed, Global};
 use std::marker::Model;
@@ -37,7 +38,8 @@ impl<T> Stack<T> {
     }
 
     pub fn pop(&mut self) -> Option<T>
-        ensures { self.old ≡ option_to_list result ++ self.new }
+        ensures top { MatchOption result (self.old ≡ []) (λ x. self.old ≡ x ∷ self.new) }
+        ensures rest { self.new ≡ rest_of self.old }
     {
         self.items.pop()
     }

@@ -1,7 +1,6 @@
 -- Sums, products and greatest ones of cut numbers, cut again, are those of the numbers, cut.
-use Rattle.std.proofs.Common.{◌≡◌, refl, ap, ◌∙◌, sym, ℕ, zero, suc, ◌+◌, ◌*◌, ◌≤◌, ◌<◌, min, max, List, [], ◌∷◌, ◌++◌, map, length, take, get_or, Bool, true, false, arith}
-use Rattle.ceu_tree.specs.Cut.{cut, limit}
-use Rattle.ceu_tree.specs.Greatest.{total, greatest}
+use Rattle.std.proofs.Common.{◌≡◌, ap, ◌∙◌, sym, ℕ, zero, suc, ◌+◌, ◌*◌, max, arith}
+use Rattle.ceu_tree.specs.Cut.{cut}
 
 pub cut_plus : (a b : ℕ) → cut (cut a + cut b) ≡ cut (a + b)
 cut_plus a b = grind arith

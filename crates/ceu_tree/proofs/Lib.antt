@@ -12,3 +12,9 @@ pub mod StayLaws
 pub mod WokenLaws
 pub mod UseLaws
 pub mod WeightLaws
+pub mod Build
+mod Rows
+mod RowsFinal
+mod RowsTime
+mod RowsMore
+mod RowsLamp

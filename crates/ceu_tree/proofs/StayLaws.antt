@@ -1,17 +1,12 @@
 -- One level of the cost of a statement that stood waiting.
-use Rattle.std.proofs.Common.{◌≡◌, refl, sym, ap, ◌∙◌, ℕ, ◌+◌, ◌-◌, ◌*◌, max, Bool, true, false, not, ◌&&◌, ◌||◌, if◌then◌else◌, List, [], ◌∷◌, ◌++◌, length, Option, Some, None}
-use Rattle.std.specs.List.{list_any, list_all}
+use Rattle.std.proofs.Common.{◌≡◌, refl, sym, ap, ◌∙◌, ℕ, Bool, if◌then◌else◌, List}
 use Rattle.ceu_tree.specs.declared.kernel.KExp.{KExp}
-use Rattle.ceu_tree.specs.declared.kernel.KDecl.{KDecl}
-use Rattle.ceu_tree.specs.declared.kernel.KNode.{KNode}
 use Rattle.ceu_tree.specs.declared.kernel.KArm.{KArm, KArm', out-KArm}
 use Rattle.ceu_tree.specs.declared.kernel.KBlock.{KBlock, KBlock', out-KBlock, Row_of-KNode, end_of-KNode, more_of-KNode, items-the_row-KNode, items_shown-the_row-KNode-2}
 use Rattle.ceu_tree.specs.declared.kernel.KStmt as k
 use Rattle.ceu_tree.specs.declared.kernel.KStmt.{KStmt, out-KStmt, Row_of-KArm, end_of-KArm, more_of-KArm, items-the_row-KArm, items_hidden-the_row-KArm-0, items_hidden-the_row-KBlock-1, Row_of-KBlock, end_of-KBlock, more_of-KBlock, items-the_row-KBlock}
 use Rattle.ceu_tree.specs.declared.kernel.KStmt.TheBlock.{hidden-the_row-KArm-0, hidden-the_row-KBlock-1}
-use Rattle.ceu_tree.specs.Greatest.{greatest, total}
-use Rattle.ceu_tree.specs.Paths.{has_end, quick}
-use Rattle.ceu_tree.specs.Costs.{Cost, nothing, cost, plus, most, sum_of, most_of, cost_at, loop_stay, stands_waiting, enter, enter_block, enter_nodes, enter_list, pools_stay, stay, stay_block, stay_arm, stay_nodes, stay_arms, stay_blocks, stay_list}
+use Rattle.ceu_tree.specs.Costs.{Cost, nothing, cost, plus, most, sum_of, most_of, cost_at, loop_stay, stands_waiting, enter_block, enter_list, pools_stay, stay, stay_block, stay_arm, stay_nodes, stay_arms, stay_blocks, stay_list}
 use Rattle.ceu_tree.proofs.EnterLaws.{enter_KNode_row}
 use denote.Hole.Carrier
 

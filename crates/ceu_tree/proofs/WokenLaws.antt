@@ -1,18 +1,14 @@
 -- One level of what the loops that an event paces cost in a body.
-use Rattle.std.proofs.Common.{◌≡◌, refl, sym, ap, ◌∙◌, ℕ, ◌+◌, ◌-◌, ◌*◌, max, Bool, true, false, not, ◌&&◌, ◌||◌, if◌then◌else◌, List, [], ◌∷◌, ◌++◌, length, Option, Some, None}
-use Rattle.std.specs.List.{list_any, list_all}
+use Rattle.std.proofs.Common.{◌≡◌, refl, sym, ap, ◌∙◌, ℕ, Bool, List}
 use Rattle.ceu_tree.specs.declared.kernel.KExp.{KExp}
-use Rattle.ceu_tree.specs.declared.kernel.KDecl.{KDecl}
-use Rattle.ceu_tree.specs.declared.kernel.KNode.{KNode}
 use Rattle.ceu_tree.specs.declared.kernel.KArm.{KArm, KArm', out-KArm}
 use Rattle.ceu_tree.specs.declared.kernel.KBlock.{KBlock, KBlock', out-KBlock, Row_of-KNode, end_of-KNode, more_of-KNode, items-the_row-KNode, items_shown-the_row-KNode-2}
 use Rattle.ceu_tree.specs.declared.kernel.KStmt as k
 use Rattle.ceu_tree.specs.declared.kernel.KStmt.{KStmt, out-KStmt, Row_of-KArm, end_of-KArm, more_of-KArm, items-the_row-KArm, items_hidden-the_row-KArm-0, items_hidden-the_row-KBlock-1, Row_of-KBlock, end_of-KBlock, more_of-KBlock, items-the_row-KBlock}
 use Rattle.ceu_tree.specs.declared.kernel.KStmt.TheBlock.{hidden-the_row-KArm-0, hidden-the_row-KBlock-1}
-use Rattle.ceu_tree.specs.Greatest.{greatest, total}
 use Rattle.std.proofs.Common.{drop}
 use Rattle.ceu_tree.proofs.EnterLaws.{enter_KNode_row}
-use Rattle.ceu_tree.specs.Costs.{Cost, nothing, cost, plus, sum_of, enter, enter_list, rest_cost, body_cost, loop_woken, woken, woken_block, woken_arm, woken_nodes, woken_arms, woken_blocks, woken_node}
+use Rattle.ceu_tree.specs.Costs.{Cost, nothing, plus, sum_of, enter, enter_list, rest_cost, body_cost, loop_woken, woken, woken_block, woken_arm, woken_nodes, woken_arms, woken_blocks, woken_node}
 use denote.Hole.Carrier
 
 pub woken_of_nothing : (passing : List Bool) (events : List Cost) (entering : List Cost) (e : ℕ) → woken passing events entering e k.Nothing ≡ nothing

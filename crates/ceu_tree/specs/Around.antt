@@ -1,5 +1,5 @@
 -- What the parts around a leaf do with what it comes to: one frame after the other, from the inside outward.
-use Rattle.std.specs.Prelude.{ℕ, ℤ, pos, ◌+◌, ◌+ℤ◌, int_lt, Bool, true, false, ◌&&◌, if◌then◌else◌, ◌==◌, List, [], ◌∷◌, Option, Some, None}
+use Rattle.std.specs.Prelude.{ℕ, ℤ, pos, ◌+◌, ◌+ℤ◌, int_lt, Bool, true, false, ◌&&◌, if◌then◌else◌, ◌==◌, List, ◌∷◌}
 use Rattle.ceu_base.specs.declared.kinds.Pos.{Pos}
 use Rattle.ceu_base.specs.declared.kinds.Fault.{Fault}
 use Rattle.ceu_base.specs.declared.kinds.Fault.TheVariants.{LoopLimit}
@@ -12,18 +12,18 @@ use Rattle.ceu_tree.specs.declared.kernel.KNode.{KNode}
 use Rattle.ceu_tree.specs.declared.kernel.KBlock.{KBlock, out-KBlock}
 use Rattle.ceu_tree.specs.declared.kernel.KStmt.{out-KStmt}
 use Rattle.ceu_tree.specs.declared.kernel.KStmt.TheOpen.{KStmt-F}
-use Rattle.ceu_tree.specs.Residual.{Body, Act, Begin, AtEnd, Again, Counter, Free, Turns, Upward, Residual, Over, Block, Open, Loop, Call, Par, Branches, no_branch, branch, Instances}
+use Rattle.ceu_tree.specs.Residual.{Body, Act, Begin, Again, Counter, Turns, Upward, Residual, Over, Block, Loop, Par, Branches, no_branch, branch, Instances}
 use Rattle.ceu_tree.specs.Focus.{Frame, OfBlock, OfInstance, OfOpen, OfLoop, OfCall, OfPar, Focus, Here, In, join, join_instances, fill, plug, body_in}
 use Rattle.ceu_tree.specs.World.{World, Holds, marked, set, assign_if, dead}
 use Rattle.ceu_tree.specs.Abort.{aborted, closed, forget_loop, returned}
-use Rattle.ceu_tree.specs.Leaf.{Layer, Exit, Escape, Break, Continue, target, next_of, rest_of}
+use Rattle.ceu_tree.specs.Leaf.{Layer, Exit, Escape, Continue, target, next_of, rest_of}
 
 -- what a trail comes to inside a part
 pub data Outcome : Type 0 where
   Goes : Focus Act → Outcome  -- the turn goes on there
   Rests : Residual → Outcome  -- the turn is over, and this is left of the part
   Raises : Residual → Outcome  -- so too, and the next level is open
-  Fails : Fault × Pos → Outcome
+  Fails : Fault × Pos → Residual → Outcome  -- a fault, and this is left of the part
   Past : Outcome  -- goes past its statement
   Registers : KNode → Outcome  -- so too, with that finalizer registered
   AtBlockEnd : Outcome
@@ -69,7 +69,7 @@ begins_turn s c b w = moved (Goes (In (OfLoop s c) (Here (Begin b)))) w
 
 -- the next turn, where there is one
 abbrev pub turn_of : KNode → KLoop → KBlock → Counter → Body → World → Moved
-turn_of s (turns.Times slot limit) b (Turns k) body w = if k == limit then moved (Fails (LoopLimit, s.pos)) w else begins_turn s (Turns (k + 1)) b w
+turn_of s (turns.Times slot limit) b (Turns k) body w = if k == limit then moved (Fails (LoopLimit, s.pos) (Loop s (Turns k) Over)) w else begins_turn s (Turns (k + 1)) b w
 turn_of s (turns.Range i at end open_a x y open_b) b (Upward next last) body w =
     if int_lt last next then moved Past (forget_loop body s.stmt w) else begins_turn s (Upward (next +ℤ pos 1) last) b (set body i (Holds next) w)
 turn_of s kind b c body w = begins_turn s c b w
@@ -112,7 +112,7 @@ abbrev pub through : Body → Frame → Focus Act → Outcome → World → Move
 through body fr f (Goes g) w = moved (Goes (In fr g)) w
 through body fr f (Rests r) w = moved (Rests (fill fr r)) w
 through body fr f (Raises r) w = moved (Raises (fill fr r)) w
-through body fr f (Fails e) w = moved (Fails e) w
+through body fr f (Fails e r) w = moved (Fails e (fill fr r)) w
 through body (OfBlock b fin all rest) f Past w = goes_on b fin all rest w
 through body (OfBlock b fin all rest) f (Registers s) w = goes_on b (s ∷ fin) all rest (marked (mark.Registered s.pos) w)
 through body (OfBlock b fin all rest) f AtBlockEnd w = moved (Ends (pos 0)) (closed b fin all body w)
@@ -127,9 +127,25 @@ through body (OfCall s) f (Ends v) w = moved Past (assign_if body (target s) v (
 through body (OfPar s before after) f (Ends v) w = rejoined (kind_of (out-KStmt s.stmt)) s (join before (branch Over after)) body w
 -- an instance that ends frees its place, and its trail ends
 through body (OfInstance b fin before seat after r rest) f (Ends v) w = moved (Rests (Block b fin (join_instances before after) r rest)) (dead seat.number w)
-through body fr f x w = moved x w
+-- an exit is handed on
+through body fr f (Leaves node x) w = moved (Leaves node x) w
+-- in no proper kernel does a trail come here
+through body fr f x w = moved (Rests (fill fr Over)) w
 
 -- what x, which the leaf comes to, makes of the whole focus; `body` is the open body around it
 unfoldable pub up : Body → Focus Act → Outcome → World → Moved
 up body (Here a) x w = moved x w
 up body (In fr f) x w = let m = up (body_in fr body) f x w in through body fr f m.outcome m.world
+
+-- of the whole focus: an exit that no part takes ends the trail (no proper kernel has one)
+abbrev pub taken : Focus Act → Outcome → Outcome
+taken f (Goes g) = Goes g
+taken f (Rests r) = Rests r
+taken f (Raises r) = Raises r
+taken f (Fails e r) = Fails e r
+taken f (Ends v) = Ends v
+taken f (Leaves node x) = Rests (plug f Over)
+taken f _ = Rests Over
+
+abbrev pub answered : (root : Body) → Focus Act → Outcome → World → Moved
+answered root f x w = let m = up root f x w in moved (taken f m.outcome) m.world

@@ -9,7 +9,7 @@ use Rattle.ceu_base.specs.Values.{applied1, applied2, wrapped, of_test, same}
 use Rattle.ceu_tree.specs.declared.kernel.KExp.{KExp}
 use Rattle.ceu_tree.specs.declared.kernel.KExpNode.{KExpNode, Row_of-KExp, end_of-KExp, more_of-KExp, Const, Read, Alive, One', Two', As'}
 use Rattle.ceu_tree.specs.Residual.{Body}
-use Rattle.ceu_tree.specs.World.{Cell, Holds, NotSet, Names, World, look, place_of, is_among}
+use Rattle.ceu_tree.specs.World.{Cell, Holds, Names, World, look, place_of, is_among}
 
 abbrev pub Answer : Type 0
 Answer = Result ℤ (Fault × Pos)

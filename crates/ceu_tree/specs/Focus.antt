@@ -1,6 +1,6 @@
 -- A turn that is on: the leaf whose turn it is, under the list of the open parts around it, the outermost first. A part around it is a frame, which
 -- holds the part's other branches, instances and statements. (This project's own form of the one leaf that is running.)
-use Rattle.std.specs.Prelude.{ℕ, List, Option, Some, None, Bool, true, false, ◌||◌}
+use Rattle.std.specs.Prelude.{List, Option, Some, None, Bool, true, false, ◌||◌}
 use Rattle.ceu_tree.specs.declared.kernel.KNode.{KNode}
 use Rattle.ceu_tree.specs.declared.kernel.KBlock.{KBlock}
 use Rattle.ceu_tree.specs.Residual.{Body, Awaited, Spawned, Counter, Seat, Residual, Over, Run, WaitInput, WaitTime, WaitEvent, WaitForever, InAsync, Block, Open, Loop, Call, Par, Branches, no_branch, branch, Instances, no_instance, instance}

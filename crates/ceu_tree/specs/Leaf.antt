@@ -1,5 +1,5 @@
 -- What a leaf does when it is its turn: one action of its trail.
-use Rattle.std.specs.Prelude.{ℕ, suc, zero, ◌-◌, ◌^◌, min, max, ℤ, pos, negsuc, ◌+ℤ◌, ◌-ℤ◌, ◌*ℤ◌, Bool, false, if◌then◌else◌, List, [], ◌∷◌, Option, Some, None, Result, Ok, Err}
+use Rattle.std.specs.Prelude.{ℕ, suc, zero, ◌-◌, ◌^◌, min, max, ℤ, pos, negsuc, ◌+ℤ◌, ◌-ℤ◌, ◌*ℤ◌, false, if◌then◌else◌, List, [], ◌∷◌, Option, Some, None, Result, Ok, Err}
 use Rattle.ceu_base.specs.declared.kinds.Pos.{Pos}
 use Rattle.ceu_base.specs.declared.kinds.Fault.{Fault}
 use Rattle.ceu_base.specs.declared.kinds.Mark.TheVariants as mark
@@ -16,9 +16,9 @@ use Rattle.ceu_tree.specs.declared.kernel.KArm.{KArm, out-KArm}
 use Rattle.ceu_tree.specs.declared.kernel.KBlock.{KBlock, out-KBlock}
 use Rattle.ceu_tree.specs.declared.kernel.KStmt.{KStmt, out-KStmt}
 use Rattle.ceu_tree.specs.declared.kernel.KStmt.TheOpen.{KStmt-F}
-use Rattle.ceu_tree.specs.Residual.{Body, Awaited, Act, Begin, Start, Finish, AtEnd, AtHead, Again, Counter, Free, Turns, Upward, Residual, Over, Run, WaitInput, WaitTime, WaitEvent, WaitForever, InAsync, Branches, no_branch, branch, no_instance}
-use Rattle.ceu_tree.specs.Focus.{Frame, OfBlock, OfOpen, OfLoop, OfCall, OfPar, Focus, Here, In}
-use Rattle.ceu_tree.specs.World.{Cell, Holds, NotSet, Names, World, marked, set, assign, assign_if, set_parameters, look}
+use Rattle.ceu_tree.specs.Residual.{Body, Awaited, Act, Begin, Start, Finish, AtEnd, AtHead, Again, Counter, Free, Turns, Upward, Residual, Run, WaitInput, WaitTime, WaitEvent, WaitForever, InAsync, Branches, no_branch, branch, no_instance}
+use Rattle.ceu_tree.specs.Focus.{OfBlock, OfOpen, OfLoop, OfCall, OfPar, Focus, Here, In}
+use Rattle.ceu_tree.specs.World.{Cell, NotSet, Names, World, marked, set, assign, assign_if, set_parameters, look}
 use Rattle.ceu_tree.specs.Expressions.{names_living, value_of, value_if, values_of}
 
 -- a statement, one level of it open

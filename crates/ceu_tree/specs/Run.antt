@@ -1,7 +1,6 @@
 -- Reactions, commands and runs (Céu 0.30 manual, chapter on the execution model; TECS 2017: a program is a sequence of reactions, each to one
 -- occurrence; levels, marks, rounds of asyncs and idle turns are this project's own).
 use Rattle.std.specs.Prelude.{◌≡◌, ℕ, zero, suc, ◌+◌, ◌-◌, ℤ, pos, Bool, true, false, if◌then◌else◌, nat_le, List, [], ◌∷◌, Option, Some, None}
-use Rattle.std.specs.List.{list_any}
 use Rattle.ceu_base.specs.declared.kinds.Pos.{Pos}
 use Rattle.ceu_base.specs.declared.kinds.Fault.{Fault}
 use Rattle.ceu_base.specs.declared.kinds.Mark.{Mark}
@@ -9,12 +8,11 @@ use Rattle.ceu_base.specs.declared.kinds.Mark.TheVariants as mark
 use Rattle.ceu_tree.specs.declared.command.Command.{Command}
 use Rattle.ceu_tree.specs.declared.command.Command.TheVariants.{Input, Advance, Idle}
 use Rattle.ceu_tree.specs.declared.kernel.Kernel.{Kernel}
-use Rattle.ceu_tree.specs.declared.kernel.KNode.{KNode}
 use Rattle.ceu_tree.specs.Residual.{Body, Program, Act, Begin, Finish, Again, Residual, Over, Run, InAsync}
 use Rattle.ceu_tree.specs.Focus.{Focus, plug, leaf, body_of, choose}
 use Rattle.ceu_tree.specs.World.{World, empty_world, marked}
 use Rattle.ceu_tree.specs.Abort.{aborted}
-use Rattle.ceu_tree.specs.Wake.{each_leaf, leaves, runs_at, by_input, later, by_time, least_time, is_async, Unserved, unserved, new_round}
+use Rattle.ceu_tree.specs.Wake.{each_leaf, leaves, runs_at, by_input, later, by_time, least_time, Unserved, unserved, new_round}
 use Rattle.ceu_tree.specs.Around.{Outcome, Goes, Rests, Raises, Fails, Ends}
 use Rattle.ceu_tree.specs.Step.{stepped}
 
@@ -38,14 +36,15 @@ world_of (Faulted e w) = w
 abbrev pub faulted : Fault × Pos → Residual → World → Config
 faulted e r w = Faulted e (aborted r Program w)
 
--- what has become of the focus f
-abbrev pub config_of : (level : ℕ) → Focus Act → Outcome → World → Config
-config_of n f (Goes g) w = Turning n g w
-config_of n f (Rests r) w = Between n r w
-config_of n f (Raises r) w = Between (n + 1) r w
-config_of n f (Fails e) w = faulted e (plug f Over) w
-config_of n f (Ends v) w = Ended v w
-config_of n f _ w = Between n (plug f Over) w
+-- what has become of the whole tree
+abbrev pub config_of : (level : ℕ) → Outcome → World → Config
+config_of n (Goes g) w = Turning n g w
+config_of n (Rests r) w = Between n r w
+config_of n (Raises r) w = Between (n + 1) r w
+config_of n (Fails e r) w = faulted e r w
+config_of n (Ends v) w = Ended v w
+-- no proper kernel comes to the rest
+config_of n _ w = Between n Over w
 
 -- a fault inside a finalizer stops the program
 abbrev pub unless_failed : World → Config → Config
@@ -62,7 +61,7 @@ chosen_at n (Some f) r w = Turning n f (marked (mark.Resume n) w)
 chosen_at n None r w = level_closed n r w
 
 unfoldable pub next : Kernel → Config → Config
-next K (Turning n f w) = let m = stepped K n Program f w in unless_failed m.world (config_of n f m.outcome m.world)
+next K (Turning n f w) = let m = stepped K n Program f w in unless_failed m.world (config_of n m.outcome m.world)
 next K (Between n r w) = chosen_at n (choose Act (runs_at n) r) r w
 next K (Waiting r w) = Waiting r w
 next K (Ended v w) = Ended v w
@@ -73,10 +72,14 @@ is_reacting (Turning n f w) = true
 is_reacting (Between n r w) = true
 is_reacting _ = false
 
--- at most so many steps
+-- at most so many steps, until the reaction is over
 unfoldable pub steps : Kernel → ℕ → Config → Config
 steps K zero c = c
-steps K (suc n) c = steps K n (next K c)
+steps K (suc k) (Turning n f w) = steps K k (next K (Turning n f w))
+steps K (suc k) (Between n r w) = steps K k (next K (Between n r w))
+steps K (suc k) (Waiting r w) = Waiting r w
+steps K (suc k) (Ended v w) = Ended v w
+steps K (suc k) (Faulted e w) = Faulted e w
 
 -- the reaction of c ends in d, which waits, has ended or has faulted
 pub record Reacts (K : Kernel) (c d : Config) : Type 0 where
@@ -102,7 +105,10 @@ unfoldable pub advance : Kernel → ℕ → (reactions us : ℕ) → Config → 
 advance K n zero d c = c
 advance K n (suc k) d (Waiting r w) = elim (least_time (leaves r)) [
   | None ↦ Waiting r w
-  | Some m ↦ (let rest = d - m in if nat_le m d then advance K n k rest (reacts K n (each_leaf (by_time rest) (each_leaf (later m) r)) w) else Waiting (each_leaf (later d) r) w)
+  | Some m ↦ elim (nat_le m d) [
+    | true ↦ advance K n k (d - m) (reacts K n (each_leaf (by_time (d - m)) (each_leaf (later m) r)) w)
+    | false ↦ Waiting (each_leaf (later d) r) w
+  ]
 ]
 advance K n (suc k) d (Turning l f w) = Turning l f w
 advance K n (suc k) d (Between l r w) = Between l r w
@@ -117,7 +123,7 @@ pub data Served : Type 0 where
   Unfinished : Served  -- the bound was too small
   Turned : Residual → World → Served  -- a turn of a loop is completed
   Done : World → Served  -- the async has ended
-  Failed : Fault × Pos → World → Served
+  Failed : Fault × Pos → Residual → World → Served
 
 -- runs the trail f of an async until a loop's turn is completed or it ends; `root` is the open body that holds the async
 unfoldable pub serve : Kernel → ℕ → (root : Body) → Focus Act → World → Served
@@ -125,25 +131,27 @@ serve K zero root f w = Unfinished
 serve K (suc n) root f w =
     let m = stepped K 0 root f w in
     elim m.outcome [
-      | Goes g ↦ if is_again (leaf g) then Turned (plug g (Run 0 Again)) m.world else serve K n root g m.world
-      | Fails e ↦ Failed e m.world
+      | Goes g ↦ elim (is_again (leaf g)) [ true ↦ Turned (plug g (Run 0 Again)) m.world | false ↦ serve K n root g m.world ]
+      | Fails e r ↦ Failed e r m.world
+      | Rests r ↦ Turned r m.world
+      | Raises r ↦ Turned r m.world
       | _ ↦ Done m.world
     ]
 
-abbrev pub serve_first : Kernel → ℕ → (root : Body) → Option (Focus Act) → World → Served
-serve_first K n root (Some f) w = serve K n root f w
-serve_first K n root None w = Done w
+abbrev pub serve_first : Kernel → ℕ → (root : Body) → Option (Focus Act) → Residual → World → Served
+serve_first K n root (Some f) r w = serve K n root f w
+serve_first K n root None r w = Turned r w
 
 -- its end is followed at once by a reaction, in which its trail runs at level 0
 abbrev pub after_serving : Kernel → ℕ → Focus Unserved → Served → Residual → World → Config
 after_serving K n g Unfinished q u = Between 0 q u
 after_serving K n g (Turned r w) q u = Waiting (plug g (InAsync (leaf g).stmt true r)) w
 after_serving K n g (Done w) q u = reacts K n (plug g (Run 0 (Finish (leaf g).stmt (pos 0)))) w
-after_serving K n g (Failed e w) q u = faulted e (plug g Over) w
+after_serving K n g (Failed e r w) q u = faulted e (plug g (InAsync (leaf g).stmt true r)) w
 
 abbrev pub served : Kernel → ℕ → Option (Focus Unserved) → Residual → World → Config
 served K n None r w = Waiting r w
-served K n (Some g) r w = after_serving K n g (serve_first K n (body_of g Program) (choose Act (runs_at 0) (leaf g).inner) w) r w
+served K n (Some g) r w = after_serving K n g (serve_first K n (body_of g Program) (choose Act (runs_at 0) (leaf g).inner) (leaf g).inner w) r w
 
 -- serves the first async that was not served in this round; where all were served, a new round begins
 abbrev pub idle_turn : Kernel → ℕ → Config → Config

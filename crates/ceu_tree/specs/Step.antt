@@ -1,5 +1,5 @@
 -- One step of a turn, in the whole focus: the leaf acts, and the parts around it answer. Emissions, spawns and kills reach beyond the leaf's own part.
-use Rattle.std.specs.Prelude.{ℕ, zero, suc, ◌+◌, ℤ, pos, nat_lt, Bool, true, false, if◌then◌else◌, ◌==◌, ◌&&◌, List, [], ◌∷◌, ◌++◌, length, Option, Some, None}
+use Rattle.std.specs.Prelude.{ℕ, zero, suc, ◌+◌, ℤ, pos, nat_lt, if◌then◌else◌, ◌==◌, List, [], ◌∷◌, Option, Some, None}
 use Rattle.ceu_base.specs.declared.kinds.Fault.TheVariants.{SpawnCount}
 use Rattle.ceu_base.specs.declared.kinds.Mark.TheVariants as mark
 use Rattle.ceu_tree.specs.declared.kernel.Kernel.{Kernel}
@@ -9,15 +9,15 @@ use Rattle.ceu_tree.specs.declared.kernel.KDecl.{KDecl}
 use Rattle.ceu_tree.specs.declared.kernel.KKind.{KKind}
 use Rattle.ceu_tree.specs.declared.kernel.KKind.TheVariants as kind
 use Rattle.ceu_tree.specs.declared.kernel.KNode.{KNode}
-use Rattle.ceu_tree.specs.declared.kernel.KBlock.{KBlock, out-KBlock}
+use Rattle.ceu_tree.specs.declared.kernel.KBlock.{out-KBlock}
 use Rattle.ceu_tree.specs.Residual.{Body, Spawned, Act, Begin, Finish, Seat, Residual, Over, Run, Instances, no_instance, instance}
-use Rattle.ceu_tree.specs.Focus.{Frame, OfBlock, Focus, Here, In, plug, graft, leaf, body_in, body_of}
+use Rattle.ceu_tree.specs.Focus.{Frame, OfBlock, Focus, Here, In, plug, graft, leaf, body_of}
 use Rattle.ceu_tree.specs.World.{NotSet, Names, World, marked, set_alias, set_parameters, is_among, dead}
 use Rattle.ceu_tree.specs.Abort.{aborted}
 use Rattle.ceu_tree.specs.Wake.{by_event, woken}
 use Rattle.ceu_tree.specs.Leaf as does
 use Rattle.ceu_tree.specs.Leaf.{Does, acted}
-use Rattle.ceu_tree.specs.Around.{Outcome, Rests, Raises, Goes, Fails, Past, Registers, AtBlockEnd, AtLoopHead, Leaves, Moved, moved, up}
+use Rattle.ceu_tree.specs.Around.{Rests, Raises, Goes, Fails, Past, Registers, AtBlockEnd, AtLoopHead, Leaves, Moved, moved, answered}
 
 -- ---- events
 
@@ -85,7 +85,7 @@ seated seat r (In fr f) = In (seat_frame seat r fr) (seated seat r f)
 -- the spawner is paused, and the instance is the only trail of the next level
 abbrev pub spawned_at : (level : ℕ) → Body → Focus Act → KNode → KCode → (code pool place : ℕ) → (alias : Option ℕ) → List ℤ → World → Moved
 spawned_at n body f s c code pool place alias vs w =
-    if w.given == 4294967295 then moved (Fails (SpawnCount, s.pos)) w else (
+    if w.given == 4294967295 then moved (Fails (SpawnCount, s.pos) (plug f Over)) w else (
     let number = w.given + 1 in
     let seat : Seat = record { pool = pool; place = place; code = code; number = number } in
     let u = set_parameters (Spawned number) c.params vs (set_alias body alias (Names number) (record w { given = number; living = number ∷ w.living })) in
@@ -94,7 +94,7 @@ spawned_at n body f s c code pool place alias vs w =
 -- where no place is free nothing more is done, and the alias is not set
 abbrev pub spawned : (level : ℕ) → (root body : Body) → Focus Act → KNode → KCode → (code pool : ℕ) → (alias : Option ℕ) → List ℤ → World → Moved
 spawned n root body f s c code pool alias vs w = elim (free_place pool f) [
-  | None ↦ up root f Past (marked mark.Full (set_alias body alias NotSet w))
+  | None ↦ answered root f Past (marked mark.Full (set_alias body alias NotSet w))
   | Some place ↦ spawned_at n body f s c code pool place alias vs w
 ]
 
@@ -128,15 +128,15 @@ killed k (In fr f) w = killed k f (kill_frame k fr w)
 abbrev pub does_in : Kernel → (level : ℕ) → (root body : Body) → Focus Act → Does → World → Moved
 does_in K n root body f (does.Opens x) w = moved (Goes (graft f x)) w
 does_in K n root body f (does.Waits r) w = moved (Rests (plug f r)) w
-does_in K n root body f does.Passes w = up root f Past w
-does_in K n root body f (does.Leaves node x) w = up root f (Leaves node x) w
-does_in K n root body f (does.Registers s) w = up root f (Registers s) w
-does_in K n root body f does.Ends w = up root f AtBlockEnd w
-does_in K n root body f does.Heads w = up root f AtLoopHead w
+does_in K n root body f does.Passes w = answered root f Past w
+does_in K n root body f (does.Leaves node x) w = answered root f (Leaves node x) w
+does_in K n root body f (does.Registers s) w = answered root f (Registers s) w
+does_in K n root body f does.Ends w = answered root f AtBlockEnd w
+does_in K n root body f does.Heads w = answered root f AtLoopHead w
 does_in K n root body f (does.Emits s event v) w = emitted K n f s event v w
 does_in K n root body f (does.Spawns s c code pool alias vs) w = spawned n root body f s c code pool alias vs w
-does_in K n root body f (does.Kills k) w = up root (unseat k f) Past (killed k f w)
-does_in K n root body f (does.Fails e) w = moved (Fails e) w
+does_in K n root body f (does.Kills k) w = answered root (unseat k f) Past (killed k f w)
+does_in K n root body f (does.Fails e) w = moved (Fails e (plug f Over)) w
 
 unfoldable pub stepped : Kernel → (level : ℕ) → (root : Body) → Focus Act → World → Moved
 stepped K n root f w = let body = body_of f root in let d = acted K n body (leaf f) w in does_in K n root body f d.does d.world

@@ -1,5 +1,6 @@
 -- What is printed of a run, as bytes (this project's own).
 use Rattle.std.specs.Prelude.{ℕ, suc, zero, ◌+◌, ℤ, pos, negsuc, Bool, true, false, if◌then◌else◌, List, [], ◌∷◌, ◌++◌, codes}
+use Rattle.std.specs.List.{filter}
 use Rattle.std.specs.Fmt.{decimal}
 use Rattle.ceu_base.specs.declared.kinds.Ty.{Ty}
 use Rattle.ceu_base.specs.declared.kinds.Ty.TheVariants as ty
@@ -13,9 +14,7 @@ use Rattle.ceu_base.specs.Values.{same}
 use Rattle.ceu_tree.specs.declared.kernel.Kernel.{Kernel}
 use Rattle.ceu_tree.specs.Costs.{bounds}
 use Rattle.ceu_tree.specs.Needs.{memory}
-use Rattle.ceu_tree.specs.declared.command.Command.{Command}
-use Rattle.ceu_tree.specs.World.{World}
-use Rattle.ceu_tree.specs.Run.{Status, Reacting, Waits, HasEnded, HasFaulted, Config, world_of, status_of, run}
+use Rattle.ceu_tree.specs.Run.{Status, Reacting, Waits, HasEnded, HasFaulted}
 
 abbrev pub newline : List ℕ
 newline = 10 ∷ []
@@ -40,23 +39,28 @@ output_line [] k v = []
 output_line (p ∷ ps) zero v = p.name ++ value_text p.ty v ++ newline
 output_line (p ∷ ps) (suc k) v = output_line ps k v
 
--- the line of a mark; only outputs are printed, unless `all` are
-abbrev pub other_line : Bool → List ℕ → List ℕ
-other_line all text = if all then text ++ newline else []
+abbrev pub mark_line : List Port → Mark → List ℕ
+mark_line ports (Output k v) = output_line ports k v
+mark_line ports (Resume n) = codes "> resume " ++ decimal n ++ newline
+mark_line ports (Push n) = codes "> push " ++ decimal n ++ newline
+mark_line ports (Pop n) = codes "> pop " ++ decimal n ++ newline
+mark_line ports (Registered p) = codes "> registered " ++ place_text p ++ newline
+mark_line ports (Ran p) = codes "> ran " ++ place_text p ++ newline
+mark_line ports (Spawned n) = codes "> spawned " ++ decimal n ++ newline
+mark_line ports Full = codes "> full" ++ newline
 
-abbrev pub mark_line : List Port → Bool → Mark → List ℕ
-mark_line ports all (Output k v) = output_line ports k v
-mark_line ports all (Resume n) = other_line all (codes "> resume " ++ decimal n)
-mark_line ports all (Push n) = other_line all (codes "> push " ++ decimal n)
-mark_line ports all (Pop n) = other_line all (codes "> pop " ++ decimal n)
-mark_line ports all (Registered p) = other_line all (codes "> registered " ++ place_text p)
-mark_line ports all (Ran p) = other_line all (codes "> ran " ++ place_text p)
-mark_line ports all (Spawned n) = other_line all (codes "> spawned " ++ decimal n)
-mark_line ports all Full = other_line all (codes "> full")
+abbrev pub is_output : Mark → Bool
+is_output (Output k v) = true
+is_output _ = false
 
-abbrev pub mark_lines : List Port → Bool → List Mark → List ℕ
-mark_lines ports all [] = []
-mark_lines ports all (m ∷ ms) = mark_line ports all m ++ mark_lines ports all ms
+-- the marks that are printed: a trace prints all, a run the outputs
+abbrev pub shown : (all : Bool) → List Mark → List Mark
+shown true ms = ms
+shown false ms = filter is_output ms
+
+abbrev pub mark_lines : List Port → List Mark → List ℕ
+mark_lines ports [] = []
+mark_lines ports (m ∷ ms) = mark_line ports m ++ mark_lines ports ms
 
 -- ---- the first line and the status line
 
@@ -76,10 +80,6 @@ status_line Waits = codes "== waiting" ++ newline
 status_line (HasEnded v) = codes "== escape " ++ integer_text v ++ newline
 status_line (HasFaulted e) = codes "== fault " ++ fault_name e.0 ++ codes " " ++ place_text e.1 ++ newline
 
--- what a configuration has printed, from boot on
-abbrev pub config_text : Kernel → Bool → Config → List ℕ
-config_text K all c = mark_lines K.outputs all (world_of c).marks ++ status_line (status_of c)
-
 -- the whole text of a run whose script has no bad line
-abbrev pub run_text : Kernel → Bool → List Mark → Status → List ℕ
-run_text K all marks status = memory_line K ++ mark_lines K.outputs all marks ++ status_line status
+abbrev pub run_text : Kernel → (all : Bool) → List Mark → Status → List ℕ
+run_text K all marks status = memory_line K ++ mark_lines K.outputs (shown all marks) ++ status_line status

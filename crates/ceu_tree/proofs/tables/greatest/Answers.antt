@@ -1,4 +1,4 @@
-use Rattle.std.proofs.Common.{◌≡◌, ◌<◌, length, add-one, arith}
+use Rattle.std.proofs.Common.{◌<◌, length, add-one, arith}
 use Rattle.std.proofs.lemmas.Grind.{common_steps}
 use Rattle.ceu_tree.proofs.TableLaws.{greatest_of_more}
 use Rattle.ceu_tree.proofs.tables.greatest.Goals as goal

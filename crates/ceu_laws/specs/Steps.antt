@@ -1,0 +1,13 @@
+-- A bound on steps only cuts a run off: once a run is over, a larger bound gives the same.
+use Rattle.std.specs.Prelude.{◌≡◌, ◌≤◌, ℕ, Bool, true, false, List, Option, Some}
+use Rattle.ceu_tree.specs.declared.command.Command.{Command}
+use Rattle.ceu_tree.specs.declared.kernel.Kernel.{Kernel}
+use Rattle.ceu_tree.specs.Residual.{Residual}
+use Rattle.ceu_tree.specs.Focus.{Focus, leaf, plug, choose}
+use Rattle.ceu_tree.specs.Run.{Config, is_reacting, steps, run}
+
+abbrev pub ReactionsStand : Type 0
+ReactionsStand = (K : Kernel) (n k : ℕ) (c : Config) → n ≤ k → is_reacting (steps K n c) ≡ false → steps K k c ≡ steps K n c
+
+abbrev pub RunsStand : Type 0
+RunsStand = (K : Kernel) (n k : ℕ) (xs : List Command) → n ≤ k → is_reacting (run K n xs) ≡ false → run K k xs ≡ run K n xs

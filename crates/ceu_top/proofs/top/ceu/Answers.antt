@@ -1,0 +1,38 @@
+use Rattle.ceu_top.proofs.Clauses.{clause_headline, clause_words, clause_absent, clause_too_long, clause_done, clause_refused, clause_read, clause_write, clause_cut_short, clause_unwritten, clause_quiet, clause_built}
+use Rattle.ceu_top.proofs.top.ceu.Goals as goal
+
+pub returns-clause-headline : goal.returns-clause-headline
+returns-clause-headline g c = clause_headline c.answer.ensures
+
+pub returns-clause-words : goal.returns-clause-words
+returns-clause-words g c = clause_words c.answer.ensures
+
+pub returns-clause-absent : goal.returns-clause-absent
+returns-clause-absent g c = clause_absent c.answer.ensures
+
+pub returns-clause-too_long : goal.returns-clause-too_long
+returns-clause-too_long g c = clause_too_long c.answer.ensures
+
+pub returns-clause-done : goal.returns-clause-done
+returns-clause-done g c = clause_done c.answer.ensures
+
+pub returns-clause-refused : goal.returns-clause-refused
+returns-clause-refused g c = clause_refused c.answer.ensures
+
+pub returns-clause-read : goal.returns-clause-read
+returns-clause-read g c = clause_read c.answer.ensures
+
+pub returns-clause-write : goal.returns-clause-write
+returns-clause-write g c = clause_write c.answer.ensures
+
+pub returns-clause-cut_short : goal.returns-clause-cut_short
+returns-clause-cut_short g c = clause_cut_short c.answer.ensures
+
+pub returns-clause-unwritten : goal.returns-clause-unwritten
+returns-clause-unwritten g c = clause_unwritten c.answer.ensures
+
+pub returns-clause-quiet : goal.returns-clause-quiet
+returns-clause-quiet g c = clause_quiet c.answer.ensures
+
+pub returns-clause-built : goal.returns-clause-built
+returns-clause-built g c = clause_built c.answer.ensures
