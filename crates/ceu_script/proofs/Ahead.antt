@@ -54,18 +54,18 @@ pub no_more_ahead : (p : Piece) (r s : Reader) (x y : Option (List ℕ)) → p �
 no_more_ahead p r s x y is empty has taken told =
     let none : s.pending ≡ [] = subst (λ q. HasPiece q s) is has in
     where_told_map x y _ _ (λ old new refills.
-        let e = ended r old (ap (λ (l : List ℕ). l ++ old) empty ∙ refills.0) (omega (arith, ap length empty)) in
-        let f = ended s new (ap (λ (l : List ℕ). l ++ new) none ∙ refills.1) (omega (arith, ap length none)) in
-        (e, f ∙ sym e)) (subst (λ q. WhereTold x y (λ old new. Refills q r old s new)) is told)
+    let e = ended r old (ap (λ (l : List ℕ). l ++ old) empty ∙ refills.0) (omega (arith, ap length empty)) in
+    let f = ended s new (ap (λ (l : List ℕ). l ++ new) none ∙ refills.1) (omega (arith, ap length none)) in
+    (e, f ∙ sym e)) (subst (λ q. WhereTold x y (λ old new. Refills q r old s new)) is told)
 
 pub spent_ahead : (p : Piece) (r s : Reader) (x y : Option (List ℕ)) → p ≡ Spent → r.pending ≡ [] → HasPiece p s → s.taken ≡ r.taken + length s.pending
     → WhereTold x y (λ old new. Refills p r old s new) → WhereTold x y (λ old new. AnswersByte Over (ahead r old) (ahead s new))
 spent_ahead p r s x y is empty has taken told =
     let none : s.pending ≡ [] = subst (λ q. HasPiece q s) is has in
     where_told_map x y _ _ (λ old new refills.
-        let e = spent r old (omega (arith, ap length empty, refills.1)) in
-        let f = spent s new (omega (arith, ap length none, refills.1)) in
-        (e, f ∙ sym e)) (subst (λ q. WhereTold x y (λ old new. Refills q r old s new)) is told)
+    let e = spent r old (omega (arith, ap length empty, refills.1)) in
+    let f = spent s new (omega (arith, ap length none, refills.1)) in
+    (e, f ∙ sym e)) (subst (λ q. WhereTold x y (λ old new. Refills q r old s new)) is told)
 
 -- the same, where the reader and the source of a branch go by other names behind it
 pub more_ahead_from : (p : Piece) (r s t s' : Reader) (b : ℕ) (x y y' : Option (List ℕ)) → s ≡ s' → y ≡ y' → p ≡ More → r.pending ≡ [] → s'.taken ≡ r.taken + length s'.pending → s'.taken ≤ budget → s.pending ≡ b ∷ t.pending → t.taken ≡ s.taken

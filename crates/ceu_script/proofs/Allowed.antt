@@ -63,8 +63,8 @@ literal_fits : (text : List ℕ) → TimeFits (literal text)
 unfolding literal
 literal_fits text =
     fits_if (lex.all_digits text) (within_u64 (lex.value 10 0 text)) (cond (lex.is_hex text) (within_u64 (lex.value 16 0 (drop 2 text))) (lex.time text))
-        (number_fits (lex.value 10 0 text))
-        (fits_if (lex.is_hex text) (within_u64 (lex.value 16 0 (drop 2 text))) (lex.time text) (number_fits (lex.value 16 0 (drop 2 text))) (time_fits text))
+    (number_fits (lex.value 10 0 text))
+    (fits_if (lex.is_hex text) (within_u64 (lex.value 16 0 (drop 2 text))) (lex.time text) (number_fits (lex.value 16 0 (drop 2 text))) (time_fits text))
 
 of_time_allowed : (inputs : List Port) (token : Result TokenKind Rule) → TimeFits token → Allowed inputs (of_time token)
 of_time_allowed inputs (Ok (Time us)) fits = fits
@@ -149,10 +149,10 @@ pub words_allowed : (first second : List ℕ) (inputs : List Port) → Allowed i
 words_allowed [] second inputs = tt
 words_allowed (b ∷ first) second inputs =
     allowed_if inputs (nat_eq b 43) (cond (nat_eq (length second) 0 && not (nat_eq (length first) 0)) (advance first) (Err kind.Form)) (named (b ∷ first) second inputs)
-        (allowed_if inputs (nat_eq (length second) 0 && not (nat_eq (length first) 0)) (advance first) (Err kind.Form) (of_time_allowed inputs (literal first) (literal_fits first)) tt)
-        (allowed_if inputs (bytes_eq (b ∷ first) (codes "idle")) (idle second) (cond (is_event_name (b ∷ first)) (input (b ∷ first) second inputs) (Err kind.Form))
-            (idle_allowed inputs second)
-            (allowed_if inputs (is_event_name (b ∷ first)) (input (b ∷ first) second inputs) (Err kind.Form) (of_event_allowed inputs (input_named (b ∷ first) inputs) second (named_fits (b ∷ first) inputs)) tt))
+    (allowed_if inputs (nat_eq (length second) 0 && not (nat_eq (length first) 0)) (advance first) (Err kind.Form) (of_time_allowed inputs (literal first) (literal_fits first)) tt)
+    (allowed_if inputs (bytes_eq (b ∷ first) (codes "idle")) (idle second) (cond (is_event_name (b ∷ first)) (input (b ∷ first) second inputs) (Err kind.Form))
+    (idle_allowed inputs second)
+    (allowed_if inputs (is_event_name (b ∷ first)) (input (b ∷ first) second inputs) (Err kind.Form) (of_event_allowed inputs (input_named (b ∷ first) inputs) second (named_fits (b ∷ first) inputs)) tt))
 
 pub if_ok_allowed : (inputs : List Port) (answer : Result Command BadKind) → Allowed inputs answer → IfOk answer (IsCommand inputs)
 if_ok_allowed inputs (Ok command) allowed = allowed

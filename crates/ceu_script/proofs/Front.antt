@@ -111,7 +111,6 @@ answers_from Budget s n is first cut same = first ∙ same
 module _ (x y z : Option (List ℕ)) (text : List ℕ) (r m n : Reader) (b : NextByte)
     (seen : WhereTold x y (λ old new. Seen text (ahead r old) (ahead m new)))
     (is : WhereTold y z (λ old new. AnswersByte b (ahead m old) (ahead n new))) where
-
   pub push_seen : (byte : ℕ) → b ≡ Byte byte → (byte ≡ 10 → ⊥) → WhereTold x z (λ old new. Seen (text ++ byte ∷ []) (ahead r old) (ahead n new))
   push_seen byte same other = where_told_then x y z _ _ _ (λ a c d s t. seen_more text byte _ _ _ s other (subst (λ q. AnswersByte q (ahead m c) (ahead n d)) same t)) seen is
 
@@ -126,9 +125,10 @@ module _ (x y z : Option (List ℕ)) (text : List ℕ) (r m n : Reader) (b : Nex
   pub last_stops : b ≡ Last → WhereTold x z (λ old new. Stops stop.Last text (ahead r old) (ahead n new))
   last_stops same = where_told_then x y z _ _ _ (λ a c d s t.
       let u = subst (λ q. AnswersByte q (ahead m c) (ahead n d)) same t in
-      let none : (ahead n d).bytes ≡ [] = ap (λ (q : Script). q.bytes) (u.1 ∙ u.0) in
-      ((λ empty. last_nothing text _ _ s empty u.0, λ some. last_text text _ _ s some u.0 ∙ ap (λ (l : List ℕ). of_length text l) (sym none)),
-       ap (λ (q : Script). q.cut) u.1 ∙ s.cut)) seen is
+      let none : (ahead n d).bytes ≡ [] = ap (λ (q : Script). q.bytes) (u.1 ∙ u.0) in (
+        (λ empty. last_nothing text _ _ s empty u.0, λ some. last_text text _ _ s some u.0 ∙ ap (λ (l : List ℕ). of_length text l) (sym none)),
+        ap (λ (q : Script). q.cut) u.1 ∙ s.cut,
+      )) seen is
 
   pub over_stops : b ≡ Over → length text ≤ 201 → WhereTold x z (λ old new. Stops stop.Over text (ahead r old) (ahead n new))
   over_stops same short = where_told_then x y z _ _ _ (λ a c d s t. budget_spent text _ _ s short (subst (λ q. AnswersByte q (ahead m c) (ahead n d)) same t).0) seen is

@@ -56,19 +56,18 @@ module _ (r m q s : Reader) (x y z : Option (List ℕ)) (text : List ℕ)
     (next : WhereTold y z (λ old new. (first_line (ahead m old) ≡ line text (ahead q new).bytes) × ((ahead q new).cut ≡ (ahead m old).cut)))
     (counted : q.last.lines ≡ m.last.lines + 1)
     (pending : s.pending ≡ q.pending) (taken : s.taken ≡ q.taken) (lines : s.last.lines ≡ q.last.lines) (said : s.last.text ≡ content_of text) where
-
   pub text_comes : 0 < length s.last.text → WhereTold x z (λ old new. Comes s.last.text r.last.lines s.last.lines (script_lines (ahead r old)) (script_lines (ahead s new)))
   text_comes some = comes r m s x y z so_far s.last.text (lines ∙ counted)
       (where_told_map y z _ (λ old new. script_lines (ahead m old) ≡ content s.last.text ∷ script_lines (ahead s new)) (λ old new is.
-          content_line text (ahead m old) (ahead q new) is.0 is.1 (omega (arith, some, ap length said))
-          ∙ ap (λ (l : List ℕ). content l ∷ script_lines (ahead q new)) (sym said)
-          ∙ ap (λ (t : Script). content s.last.text ∷ script_lines t) (ahead_same q s new pending taken)) next)
+      content_line text (ahead m old) (ahead q new) is.0 is.1 (omega (arith, some, ap length said))
+      ∙ ap (λ (l : List ℕ). content l ∷ script_lines (ahead q new)) (sym said)
+      ∙ ap (λ (t : Script). content s.last.text ∷ script_lines t) (ahead_same q s new pending taken)) next)
 
   pub text_skipped : length s.last.text ≡ 0 → SkippedTo r s x z
   text_skipped none = skipped_more r m s x y z so_far (lines ∙ counted)
       (where_told_map y z _ (λ old new. script_lines (ahead m old) ≡ skipped ∷ script_lines (ahead s new)) (λ old new is.
-          skipped_line text (ahead m old) (ahead q new) is.0 is.1 (omega (arith, none, ap length said))
-          ∙ ap (λ (t : Script). skipped ∷ script_lines t) (ahead_same q s new pending taken)) next)
+      skipped_line text (ahead m old) (ahead q new) is.0 is.1 (omega (arith, none, ap length said))
+      ∙ ap (λ (t : Script). skipped ∷ script_lines t) (ahead_same q s new pending taken)) next)
 
   pub goes_on_after : q.last.start ≡ position m → s.last.start ≡ q.last.start → position m < position q → position q ≤ position m + 203 → q.taken ≤ budget → GoesOn m → GoesOn s
   goes_on_after start kept behind near within goes_on =

@@ -10,3 +10,6 @@ mod shapes;
 pub use items::{BadKind, Item, LineItem};
 pub use reader::ScriptReader;
 pub use shapes::command_of;
+
+#[cfg(test)]
+mod tests;

@@ -10,6 +10,7 @@ use ceu_io::{Failed, Source};
 use std::marker::Model;
 
 const CHUNK: usize = 1024;
+
 const BUDGET: u64 = 1 << 40;
 
 /// Reads a script line by line, with room for one line and one piece. It takes no memory.
@@ -197,7 +198,11 @@ impl ScriptReader {
     }
 
     // Reads the bytes of a line, as far as one may go.
-    fn read_text<I: Source>(&mut self, src: &mut I, text: &mut ArrayVec<u8, 201>) -> Result<Stop, Failed>
+    fn read_text<I: Source>(
+        &mut self,
+        src: &mut I,
+        text: &mut ArrayVec<u8, 201>,
+    ) -> Result<Stop, Failed>
         requires { text.old.items ≡ [] }
         ensures told { IfOk result (λ stop. WhereTold (I.left src.old) (I.left src.new) (λ old new. Stops stop text.new.items (ahead self.old old) (ahead self.new new))) }
         ensures size { length text.new.items ≤ 201 }

@@ -106,7 +106,9 @@ fn is_event_name(name: &[u8]) -> bool
 fn input_named(name: &[u8], inputs: &[Port]) -> Option<usize>
     ensures { result ≡ spec.input_named name.now inputs.now }
 {
-    inputs.iter().position(|port| port.name.text().as_bytes() == name)
+    inputs
+        .iter()
+        .position(|port| port.name.text().as_bytes() == name)
 }
 
 fn type_at(inputs: &[Port], event: usize) -> Ty

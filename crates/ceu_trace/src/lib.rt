@@ -3,5 +3,7 @@
 
 mod lines;
 mod marks;
+#[cfg(test)]
+mod tests;
 
-pub use marks::TextMarks;
+pub use marks::{TextMarks, has_short_names};

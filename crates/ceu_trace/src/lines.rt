@@ -132,12 +132,6 @@ pub fn printed(all: bool, outputs: &[Port], mark: Mark) -> Line
 {
     match mark {
         Mark::Output(port, value) => output_at(outputs, port, value),
-        _ => {
-            if all {
-                trace_line(mark)
-            } else {
-                whole(b"")
-            }
-        }
+        _ => { if all { trace_line(mark) } else { whole(b"") } }
     }
 }

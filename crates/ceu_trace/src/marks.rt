@@ -19,6 +19,16 @@ pub struct TextMarks<'a, O: Sink> {
     ghost short: { short_names outputs.now ≡ true },
 }
 
+/// Whether no name has more than 64 bytes.
+pub fn has_short_names(outputs: &Seq<Port>) -> bool
+    ensures { result ≡ short_names outputs.now }
+{
+    outputs
+        .items()
+        .iter()
+        .all(|port| port.name.text().len() <= 64)
+}
+
 impl<'a, O: Sink> TextMarks<'a, O> {
     pub fn new(out: &'a mut O, outputs: &'a Seq<Port>, all: bool) -> TextMarks<'a, O>
         requires { short_names outputs.now ≡ true }
@@ -26,11 +36,7 @@ impl<'a, O: Sink> TextMarks<'a, O> {
         ensures outputs { result.outputs.now ≡ outputs.now }
         ensures all { result.all ≡ all }
     {
-        TextMarks {
-            out,
-            outputs,
-            all,
-        }
+        TextMarks { out, outputs, all }
     }
 }
 

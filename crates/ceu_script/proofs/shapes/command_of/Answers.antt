@@ -11,4 +11,4 @@ pub returns-clause-allowed : goal.returns-clause-allowed
 returns-clause-allowed c =
     subst (λ (inputs : List Port). IfOk c.of_words.result (IsCommand inputs)) c.items.ensures
     (if_ok_allowed c.items.result.now c.of_words.result
-        (subst (λ (answer : Result Command BadKind). Allowed c.items.result.now answer) (sym c.of_words.ensures) (words_allowed c.split_word.result.0.now c.split_word-2.result.0.now c.items.result.now)))
+    (subst (λ (answer : Result Command BadKind). Allowed c.items.result.now answer) (sym c.of_words.ensures) (words_allowed c.split_word.result.0.now c.split_word-2.result.0.now c.items.result.now)))

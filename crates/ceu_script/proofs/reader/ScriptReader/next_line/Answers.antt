@@ -15,10 +15,10 @@ use Rattle.ceu_script.proofs.reader.ScriptReader.next_line.Goals as goal
 pub returns-then-not-is_empty-clause-told : goal.returns-then-not-is_empty-clause-told
 returns-then-not-is_empty-clause-told g c =
     text_comes c.args.self.now c.loop-text.self c.read_line.new.self c.keep.new.self _ _ _ c.in-Text.text.items c.loop-text.invariant.skipped
-        (subst (λ (r : RawLine). WhereTold (g.I.Source.left c.loop-text.src) (g.I.Source.left c.read_line.new.src) (λ old new. Answers r (ahead c.loop-text.self old) (ahead c.read_line.new.self new))) c.in-Text.is c.in_ok-text.ensures.told)
-        (subst (λ (r : RawLine). c.read_line.new.self.last.lines ≡ lines_after (Ok r) c.loop-text.self.last.lines) c.in-Text.is c.in_ok-text.ensures.lines)
-        c.keep.ensures.pending c.keep.ensures.taken c.keep.ensures.lines c.keep.ensures.text
-        (let none : length c.keep.new.self.last.text ≡ length c.line.result.now = ap length (sym c.line.ensures) in grind (arith, nat_tests, none, c.is_empty.ensures, c.if-not-is_empty.true))
+    (subst (λ (r : RawLine). WhereTold (g.I.Source.left c.loop-text.src) (g.I.Source.left c.read_line.new.src) (λ old new. Answers r (ahead c.loop-text.self old) (ahead c.read_line.new.self new))) c.in-Text.is c.in_ok-text.ensures.told)
+    (subst (λ (r : RawLine). c.read_line.new.self.last.lines ≡ lines_after (Ok r) c.loop-text.self.last.lines) c.in-Text.is c.in_ok-text.ensures.lines)
+    c.keep.ensures.pending c.keep.ensures.taken c.keep.ensures.lines c.keep.ensures.text
+    (let none : length c.keep.new.self.last.text ≡ length c.line.result.now = ap length (sym c.line.ensures) in grind (arith, nat_tests, none, c.is_empty.ensures, c.if-not-is_empty.true))
 
 pub loop-text-preserved : goal.loop-text-preserved
 loop-text-preserved g c =
@@ -40,22 +40,22 @@ loop-text-preserved g c =
 pub returns-in-End-clause-told : goal.returns-in-End-clause-told
 returns-in-End-clause-told g c =
     ends c.args.self.now c.loop-text.self c.read_line.new.self _ _ _ c.loop-text.invariant.skipped
-        (subst (λ (r : RawLine). c.read_line.new.self.last.lines ≡ lines_after (Ok r) c.loop-text.self.last.lines) c.in-End.is c.in_ok-text.ensures.lines)
-        (where_told_map _ _ _ (λ old new. script_lines (ahead c.loop-text.self old) ≡ []) (λ old new is. no_line _ is)
-            (subst (λ (r : RawLine). WhereTold (g.I.Source.left c.loop-text.src) (g.I.Source.left c.read_line.new.src) (λ old new. Answers r (ahead c.loop-text.self old) (ahead c.read_line.new.self new))) c.in-End.is c.in_ok-text.ensures.told))
+    (subst (λ (r : RawLine). c.read_line.new.self.last.lines ≡ lines_after (Ok r) c.loop-text.self.last.lines) c.in-End.is c.in_ok-text.ensures.lines)
+    (where_told_map _ _ _ (λ old new. script_lines (ahead c.loop-text.self old) ≡ []) (λ old new is. no_line _ is)
+    (subst (λ (r : RawLine). WhereTold (g.I.Source.left c.loop-text.src) (g.I.Source.left c.read_line.new.src) (λ old new. Answers r (ahead c.loop-text.self old) (ahead c.read_line.new.self new))) c.in-End.is c.in_ok-text.ensures.told))
 
 pub returns-in-Long-clause-told : goal.returns-in-Long-clause-told
 returns-in-Long-clause-told g c =
     subst (λ (n : ℕ). WhereTold (g.I.Source.left c.args.src.now) (g.I.Source.left c.read_line.new.src) (λ old new. Spoils Long c.args.self.now.last.lines n (script_lines (ahead c.args.self.now old)))) (sym c.lines.ensures)
     (spoils c.args.self.now c.loop-text.self c.read_line.new.self _ _ _ c.loop-text.invariant.skipped Long
-        (subst (λ (r : RawLine). c.read_line.new.self.last.lines ≡ lines_after (Ok r) c.loop-text.self.last.lines) c.in-Long.is c.in_ok-text.ensures.lines)
-        (where_told_map _ _ _ (λ old new. script_lines (ahead c.loop-text.self old) ≡ bad Long ∷ []) (λ old new is. long_line_is _ is)
-            (subst (λ (r : RawLine). WhereTold (g.I.Source.left c.loop-text.src) (g.I.Source.left c.read_line.new.src) (λ old new. Answers r (ahead c.loop-text.self old) (ahead c.read_line.new.self new))) c.in-Long.is c.in_ok-text.ensures.told)))
+    (subst (λ (r : RawLine). c.read_line.new.self.last.lines ≡ lines_after (Ok r) c.loop-text.self.last.lines) c.in-Long.is c.in_ok-text.ensures.lines)
+    (where_told_map _ _ _ (λ old new. script_lines (ahead c.loop-text.self old) ≡ bad Long ∷ []) (λ old new is. long_line_is _ is)
+    (subst (λ (r : RawLine). WhereTold (g.I.Source.left c.loop-text.src) (g.I.Source.left c.read_line.new.src) (λ old new. Answers r (ahead c.loop-text.self old) (ahead c.read_line.new.self new))) c.in-Long.is c.in_ok-text.ensures.told)))
 
 pub returns-in-Budget-clause-told : goal.returns-in-Budget-clause-told
 returns-in-Budget-clause-told g c =
     subst (λ (n : ℕ). WhereTold (g.I.Source.left c.args.src.now) (g.I.Source.left c.read_line.new.src) (λ old new. Spoils Budget c.args.self.now.last.lines n (script_lines (ahead c.args.self.now old)))) (sym c.lines-in-Budget.ensures)
     (spoils c.args.self.now c.loop-text.self c.read_line.new.self _ _ _ c.loop-text.invariant.skipped Budget
-        (subst (λ (r : RawLine). c.read_line.new.self.last.lines ≡ lines_after (Ok r) c.loop-text.self.last.lines) c.in-Budget.is c.in_ok-text.ensures.lines)
-        (where_told_map _ _ _ (λ old new. script_lines (ahead c.loop-text.self old) ≡ bad Budget ∷ []) (λ old new is. budget_line _ is)
-            (subst (λ (r : RawLine). WhereTold (g.I.Source.left c.loop-text.src) (g.I.Source.left c.read_line.new.src) (λ old new. Answers r (ahead c.loop-text.self old) (ahead c.read_line.new.self new))) c.in-Budget.is c.in_ok-text.ensures.told)))
+    (subst (λ (r : RawLine). c.read_line.new.self.last.lines ≡ lines_after (Ok r) c.loop-text.self.last.lines) c.in-Budget.is c.in_ok-text.ensures.lines)
+    (where_told_map _ _ _ (λ old new. script_lines (ahead c.loop-text.self old) ≡ bad Budget ∷ []) (λ old new is. budget_line _ is)
+    (subst (λ (r : RawLine). WhereTold (g.I.Source.left c.loop-text.src) (g.I.Source.left c.read_line.new.src) (λ old new. Answers r (ahead c.loop-text.self old) (ahead c.read_line.new.self new))) c.in-Budget.is c.in_ok-text.ensures.told)))
