@@ -1,10 +1,10 @@
 -- The script that a reader has before it, over its next byte.
-use Rattle.std.proofs.Common.{◌≡◌, ℕ, zero, suc, ◌+◌, ◌-◌, ◌≤◌, ◌<◌, Bool, true, false, List, [], ◌∷◌, ◌++◌, length, take, drop, Option, Some, None, refl, sym, ap, ◌∙◌, subst, arith}
+use Rattle.std.proofs.Common.{◌≡◌, ℕ, zero, suc, ◌+◌, ◌≤◌, ◌<◌, true, false, List, [], ◌∷◌, ◌++◌, length, take, Option, refl, sym, ap, ◌∙◌, subst, arith}
 use Rattle.std.specs.Prelude.{nat_le}
 use Rattle.std.proofs.lemmas.Bool.Decides.{nat_tests}
 use Rattle.ceu_io.specs.Told.{WhereTold}
 use Rattle.ceu_io.proofs.Telling.{where_told_map, where_told_same}
-use Rattle.ceu_script.specs.Reader.{Reader, Script, ahead, room, budget, position}
+use Rattle.ceu_script.specs.Reader.{Reader, ahead, room, budget, position}
 use Rattle.ceu_script.specs.Bytewise.{AnswersByte, Refills, HasPiece}
 use Rattle.ceu_script.specs.declared.lines.Piece.{Piece}
 use Rattle.ceu_script.specs.declared.lines.NextByte.TheVariants.{Byte, Last, Over}

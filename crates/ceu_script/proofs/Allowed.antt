@@ -1,6 +1,6 @@
 -- A command that a line gives is one that the program takes.
-use Rattle.std.proofs.Common.{◌≡◌, ℕ, ◌<◌, ◌≤◌, Bool, true, false, cond, ◌&&◌, List, [], ◌∷◌, length, get_or, drop, Option, Some, None, Result, Ok, Err, refl, arith}
-use Rattle.std.specs.Prelude.{ℤ, pos, negsuc, int_le, nat_eq, nat_lt, unsigned_abs, codes, IsTrue, not, IfOk}
+use Rattle.std.proofs.Common.{◌≡◌, ℕ, ◌<◌, ◌≤◌, Bool, true, false, cond, ◌&&◌, List, [], ◌∷◌, length, drop, Option, Some, None, Result, Ok, Err, refl, arith}
+use Rattle.std.specs.Prelude.{ℤ, pos, negsuc, int_le, nat_eq, nat_lt, codes, IsTrue, not, IfOk}
 use Rattle.std.specs.List.{position_or_len}
 use Rattle.std.specs.Str.{bytes_eq}
 use Rattle.std.proofs.lemmas.Bool.Decides.{nat_tests}
@@ -16,10 +16,9 @@ use Rattle.ceu_lex.specs.Tables.{units}
 use Rattle.ceu_lex.specs.declared.token.TokenKind.{TokenKind}
 use Rattle.ceu_lex.specs.declared.token.TokenKind.TheVariants.{Number, Time}
 use Rattle.ceu_tree.specs.declared.command.Command.{Command}
-use Rattle.ceu_tree.specs.declared.command.Command.TheVariants.{Input, Advance, Idle}
+use Rattle.ceu_tree.specs.declared.command.Command.TheVariants.{Idle}
 use Rattle.ceu_script.specs.Commands.{IsCommand}
-use Rattle.ceu_script.specs.Content.{first_word, after_word, leading_blanks}
-use Rattle.ceu_script.specs.Shapes.{number, truth, of_type, value, is_event_name, input_named, of_time, advance, of_turns, idle, of_value, type_at, of_event, input, named, of_words, command_of}
+use Rattle.ceu_script.specs.Shapes.{number, of_type, value, is_event_name, input_named, of_time, advance, of_turns, idle, of_value, type_at, of_event, input, named, of_words}
 use Rattle.ceu_script.specs.declared.items.BadKind.{BadKind}
 use Rattle.ceu_script.specs.declared.items.BadKind.TheVariants as kind
 

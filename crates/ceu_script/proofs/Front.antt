@@ -1,11 +1,11 @@
 -- A line that was read byte by byte, and the first line of the script.
-use Rattle.std.proofs.Common.{◌≡◌, ℕ, zero, suc, ◌+◌, ◌-◌, ◌≤◌, ◌<◌, Bool, true, false, cond, List, [], ◌∷◌, ◌++◌, length, take, drop, get_or, Option, Some, None, refl, sym, ap, ◌∙◌, subst, arith, append_assoc, length-append, length-take-le, length-take}
+use Rattle.std.proofs.Common.{◌≡◌, ℕ, ◌+◌, ◌-◌, ◌≤◌, ◌<◌, Bool, true, false, cond, List, [], ◌∷◌, ◌++◌, length, take, get_or, Option, Some, None, refl, sym, ap, ◌∙◌, subst, arith, append_assoc, length-append, length-take}
 use Rattle.std.specs.Prelude.{nat_lt, nat_eq}
 use Rattle.std.proofs.lemmas.Bool.Decides.{nat_tests}
-use Rattle.std.proofs.lemmas.List.{append-nil, take-append-le}
+use Rattle.std.proofs.lemmas.List.{append-nil}
 use Rattle.ceu_io.specs.Told.{WhereTold}
 use Rattle.ceu_io.proofs.Telling.{where_told_map, where_told_then}
-use Rattle.ceu_script.specs.Reader.{Reader, Script, ahead, position}
+use Rattle.ceu_script.specs.Reader.{Reader, Script, ahead}
 use Rattle.ceu_script.specs.Lines.{without_return}
 use Rattle.ceu_script.specs.Bytewise.{Front, front_of, Leading, line, nothing, too_long, over_budget, first_line, of_front, of_length, last_line, Answers, AnswersByte, IsLine, Stops}
 use Rattle.ceu_script.specs.declared.lines.Stop.{Stop}

@@ -1,5 +1,5 @@
 -- The commands of the lines.
-use Rattle.std.proofs.Common.{◌≡◌, ℕ, zero, suc, ◌+◌, List, [], ◌∷◌, ◌++◌, Result, Ok, Err, refl, sym, ap, ◌∙◌, subst, replicate, map}
+use Rattle.std.proofs.Common.{◌≡◌, ℕ, zero, suc, List, [], ◌∷◌, ◌++◌, Result, Ok, Err, refl, ap, ◌∙◌, replicate, map}
 use Rattle.ceu_base.specs.declared.kinds.Port.{Port}
 use Rattle.ceu_tree.specs.declared.command.Command.{Command}
 use Rattle.ceu_script.specs.Lines.{Line, skipped, content, bad, until_bad, judged, of_command, script_lines, script, Comes, Spoils, Ends}

@@ -1,7 +1,7 @@
 -- The lines of a script, one by one from its front.
-use Rattle.std.proofs.Common.{◌≡◌, ℕ, ◌<◌, Bool, true, false, cond, List, [], ◌∷◌, ◌++◌, length, Option, Some, None, refl, sym, ap, ◌∙◌, subst, arith}
+use Rattle.std.proofs.Common.{◌≡◌, ℕ, ◌<◌, Bool, true, false, cond, List, [], ◌∷◌, length, Option, Some, None, refl, sym, ap, ◌∙◌, subst, arith}
 use Rattle.std.specs.Prelude.{nat_eq, nat_lt}
-use Rattle.ceu_script.specs.Bytewise.{Front, front_of, Leading, line, nothing, too_long, over_budget, first_line, of_front, of_length, last_line}
+use Rattle.ceu_script.specs.Bytewise.{Front, front_of, Leading, line, nothing, too_long, over_budget, first_line, of_front, of_length}
 use Rattle.ceu_script.specs.Content.{content_of}
 use Rattle.ceu_script.specs.Lines.{Line, skipped, content, bad, Split, split, with_byte, without_return, of_content, line_of, last_lines, lines_of, until_bad, script_lines}
 use Rattle.ceu_script.specs.Reader.{Script}

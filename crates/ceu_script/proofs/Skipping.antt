@@ -1,5 +1,5 @@
 -- Lines that are skipped, and what comes behind them.
-use Rattle.std.proofs.Common.{◌≡◌, ℕ, zero, suc, ◌+◌, ◌<◌, ◌≤◌, length, List, [], ◌∷◌, ◌++◌, Option, Some, None, refl, sym, ap, ◌∙◌, subst, arith, replicate, add-one}
+use Rattle.std.proofs.Common.{◌≡◌, ℕ, zero, suc, ◌+◌, ◌<◌, ◌≤◌, length, List, [], ◌∷◌, ◌++◌, Option, refl, sym, ap, ◌∙◌, arith, replicate}
 use Rattle.ceu_io.specs.Told.{WhereTold}
 use Rattle.ceu_io.proofs.Telling.{where_told_map, where_told_same, where_told_then}
 use Rattle.ceu_script.specs.Lines.{Line, skipped, content, bad, script_lines, Comes, Spoils, Ends}

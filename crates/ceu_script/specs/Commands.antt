@@ -1,9 +1,7 @@
 -- The commands that a program with some inputs takes.
-use Rattle.std.specs.Prelude.{◌≡◌, ℕ, ◌<◌, ◌≤◌, ℤ, pos, Bool, List, length, IsTrue}
+use Rattle.std.specs.Prelude.{◌<◌, ◌≤◌, List, length, IsTrue}
 use Rattle.ceu_base.specs.Values.{is_value}
 use Rattle.ceu_base.specs.declared.kinds.Port.{Port}
-use Rattle.ceu_base.specs.declared.kinds.Ty.{Ty}
-use Rattle.ceu_base.specs.declared.kinds.Ty.TheVariants as type
 use Rattle.ceu_tree.specs.declared.command.Command.{Command}
 use Rattle.ceu_tree.specs.declared.command.Command.TheVariants.{Input, Advance, Idle}
 use Rattle.ceu_script.specs.Shapes.{type_at}

@@ -1,5 +1,5 @@
 -- The lines of a script, as a function of all its bytes. The form of a script is this project's own.
-use Rattle.std.specs.Prelude.{◌≡◌, ℕ, ◌+◌, ◌-◌, ◌<◌, ◌≤◌, Bool, true, false, List, [], ◌∷◌, ◌++◌, length, if◌then◌else◌, ◌==◌, nat_lt, slice_index, take, map, replicate, Result, Ok, Err}
+use Rattle.std.specs.Prelude.{◌≡◌, ℕ, ◌+◌, ◌-◌, ◌<◌, Bool, true, false, List, [], ◌∷◌, ◌++◌, length, if◌then◌else◌, ◌==◌, nat_lt, slice_index, take, map, replicate, Result, Ok, Err}
 use Rattle.ceu_base.specs.declared.kinds.Port.{Port}
 use Rattle.ceu_tree.specs.declared.command.Command.{Command}
 use Rattle.ceu_script.specs.Content.{content_of}

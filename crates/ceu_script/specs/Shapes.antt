@@ -1,5 +1,5 @@
 -- The command of a line. Its shapes are `NAME`, `NAME WORD`, `+WORD`, `idle` and `idle WORD`, with blanks or tabs between.
-use Rattle.std.specs.Prelude.{ℕ, zero, suc, not, unsigned_abs, ◌-◌, ℤ, pos, neg_ℤ, Bool, true, false, ◌&&◌, ◌||◌, ◌==◌, nat_lt, nat_le, List, [], ◌∷◌, length, drop, slice_index, Option, Some, None, Result, Ok, Err, option_map, if◌then◌else◌, codes, position, int_le}
+use Rattle.std.specs.Prelude.{ℕ, zero, suc, not, unsigned_abs, ℤ, pos, neg_ℤ, Bool, ◌&&◌, ◌||◌, ◌==◌, nat_lt, List, [], ◌∷◌, length, slice_index, Option, Some, None, Result, Ok, Err, option_map, if◌then◌else◌, codes, position, int_le}
 use Rattle.std.specs.List.{list_all}
 use Rattle.std.specs.Char.{is_ascii_digit, is_ascii_uppercase}
 use Rattle.std.specs.Str.{bytes_eq}

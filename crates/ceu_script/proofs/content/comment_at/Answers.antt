@@ -1,4 +1,4 @@
-use Rattle.std.proofs.Common.{List, ℕ, ap, ◌∙◌, sym, arith}
+use Rattle.std.proofs.Common.{ap, ◌∙◌, sym, arith}
 use Rattle.std.proofs.lemmas.List.{take_rest}
 use Rattle.ceu_script.proofs.Comments.{begins_comment, comment-next}
 use Rattle.ceu_script.proofs.content.comment_at.Goals as goal

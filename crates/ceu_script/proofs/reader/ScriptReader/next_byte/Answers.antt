@@ -1,4 +1,4 @@
-use Rattle.std.proofs.Common.{refl, sym, ◌∙◌, ap, subst, arith}
+use Rattle.std.proofs.Common.{ap}
 use Rattle.ceu_script.proofs.Ahead.{no_more_ahead, spent_ahead, more_ahead_from, held_ahead_from, after_piece, after_held}
 use Rattle.ceu_script.proofs.reader.ScriptReader.next_byte.Goals as goal
 use Rattle.ceu_script.proofs.reader.ScriptReader.next_byte.Goals.{then-is_used_up+in_ok-refill+in-More, else-is_used_up}

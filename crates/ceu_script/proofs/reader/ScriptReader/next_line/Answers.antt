@@ -1,10 +1,10 @@
-use Rattle.std.proofs.Common.{◌≡◌, ◌+◌, ◌<◌, ◌≤◌, ℕ, List, [], ◌∷◌, length, Option, Ok, refl, sym, ◌∙◌, ap, subst, arith}
+use Rattle.std.proofs.Common.{◌≡◌, ◌+◌, ℕ, [], ◌∷◌, length, Ok, sym, ◌∙◌, ap, subst, arith}
 use Rattle.std.proofs.lemmas.Bool.Decides.{nat_tests}
 use Rattle.ceu_io.specs.Told.{WhereTold}
 use Rattle.ceu_io.proofs.Telling.{where_told_map}
 use Rattle.ceu_script.specs.Bytewise.{Answers, Passes, lines_after}
 use Rattle.ceu_script.specs.Lines.{Spoils, script_lines, bad}
-use Rattle.ceu_script.specs.Reader.{Reader, ahead, position}
+use Rattle.ceu_script.specs.Reader.{ahead}
 use Rattle.ceu_script.specs.declared.items.BadKind.TheVariants.{Long, Budget}
 use Rattle.ceu_script.specs.declared.lines.RawLine.{RawLine}
 use Rattle.ceu_script.proofs.Front.{moved_then}

@@ -1,4 +1,4 @@
-use Rattle.std.proofs.Common.{◌≡◌, length, ap, arith}
+use Rattle.std.proofs.Common.{length, ap, arith}
 use Rattle.std.proofs.lemmas.Grind.{common_steps}
 use Rattle.ceu_script.specs.Reader.{Reader}
 use Rattle.ceu_script.proofs.reader.ScriptReader.position.Goals as goal
