@@ -1,0 +1,6 @@
+pub mod Content
+pub mod Shapes
+pub mod Reader
+pub mod Lines
+pub mod Bytewise
+pub mod Commands
