@@ -1,0 +1,14 @@
+pub mod Takes
+pub mod Contexts
+pub mod Stands
+pub mod StandsDeclaring
+pub mod Units
+pub mod StandsActing
+pub mod StandsAll
+pub mod TakesParts
+pub mod TakesForms
+pub mod Exact
+pub mod Loops
+pub mod Completed
+pub mod Completes
+pub mod Answered
