@@ -1,8 +1,16 @@
 //! The flat code that a program becomes: instructions, images, and the one spelling of an image as bytes.
 #![tactic(auto)]
 
+mod encoding;
 mod image;
 mod instr;
+mod span;
+mod spelled;
+mod table;
 
+pub use encoding::encode;
 pub use image::{CodeRow, Image, copy_ports, memory_size};
 pub use instr::{Instr, TimeUnit};
+pub use span::Span;
+pub use spelled::{put_instruction, size_of_instruction, with_target};
+pub use table::{Operand, Row, TABLE};
