@@ -5,6 +5,8 @@ mod gate;
 mod laws;
 mod memory;
 mod numbers;
+#[cfg(test)]
+mod tests;
 
 pub use gate::Gate;
 pub use laws::{gates_stay_apart, numbers_stay_apart};
