@@ -5,6 +5,9 @@ ghost use Rattle.std.specs.Prelude.{◌≡◌, ◌≤◌, ◌<◌, ℕ, IfNone, 
 ghost use Rattle.ceu_timers.specs.Timers as spec;
 ghost use Rattle.ceu_timers.specs.Timers.{IsMemoryOf, NoTimer, IsLeast, AtMostLeast, TimePassed};
 
+#[cfg(test)]
+mod tests;
+
 use ceu_code::Image;
 use ceu_mem::{Gate, Memory};
 
