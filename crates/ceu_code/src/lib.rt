@@ -7,6 +7,8 @@ mod instr;
 mod span;
 mod spelled;
 mod table;
+#[cfg(test)]
+mod tests;
 
 pub use encoding::encode;
 pub use image::{CodeRow, Image, copy_ports, memory_size};
