@@ -1,0 +1,13 @@
+pub mod Layout
+pub mod Fetching
+pub mod Effects
+pub mod Cells
+pub mod Slots
+pub mod Trails
+pub mod Pools
+pub mod Rows
+pub mod Order
+pub mod Turns
+pub mod Reactions
+pub mod Commands
+pub mod Safety
