@@ -1,0 +1,5 @@
+pub mod Lines
+pub mod Places
+pub mod Pages
+pub mod Fetch
+pub mod Tables
