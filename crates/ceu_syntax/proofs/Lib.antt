@@ -1,0 +1,12 @@
+pub mod Takes
+pub mod Contexts
+pub mod Stands
+pub mod StandsDeclaring
+pub mod Units
+pub mod StandsActing
+pub mod StandsAll
+pub mod TakesParts
+pub mod TakesForms
+pub mod Exact
+pub mod Completed
+pub mod Completes
