@@ -1,2 +1,7 @@
 pub mod GateSums
 pub mod GateCuts
+pub mod RangeLaws
+pub mod Reaches
+pub mod Tests
+pub mod Quiet
+pub mod Within

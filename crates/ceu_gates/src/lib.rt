@@ -2,5 +2,7 @@
 #![tactic(auto)]
 
 mod needs;
+mod ranges;
 
 pub use needs::gate_need;
+pub use ranges::GateRange;

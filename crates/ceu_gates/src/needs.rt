@@ -19,7 +19,7 @@ fn pool_gates(gates: &[u32], kind: KKind) -> u32
     }
 }
 
-fn pools_gates(gates: &[u32], decls: &[KDecl]) -> u32
+pub fn pools_gates(gates: &[u32], decls: &[KDecl]) -> u32
     ensures { result ≡ cut (spec.pools_gates gates.now decls.now) }
 {
     let mut count = 0u32;
@@ -29,7 +29,7 @@ fn pools_gates(gates: &[u32], decls: &[KDecl]) -> u32
     count
 }
 
-fn is_finalize(stmt: &KStmt) -> u32
+pub fn is_finalize(stmt: &KStmt) -> u32
     ensures { result ≡ spec.finalizers stmt.now }
 {
     match stmt {
@@ -58,7 +58,7 @@ fn is_finalize(stmt: &KStmt) -> u32
 }
 
 // The finalizers of a list.
-fn finalizers(nodes: &[KNode]) -> u32
+pub fn finalizers(nodes: &[KNode]) -> u32
     ensures { result ≡ cut (total spec.node_finalizers nodes.now) }
 {
     let mut count = 0u32;
