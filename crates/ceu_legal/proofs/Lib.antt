@@ -1,0 +1,5 @@
+pub mod Static
+pub mod Fits
+pub mod Leaves
+pub mod Choice
+pub mod UpFits
