@@ -3,3 +3,4 @@ pub mod Fits
 pub mod Leaves
 pub mod Choice
 pub mod UpFits
+pub mod LeafFits
