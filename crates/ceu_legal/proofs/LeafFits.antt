@@ -27,7 +27,7 @@ use Rattle.ceu_legal.specs.Shape.{Part, ABlock, AStatement, AnEnd, block_scope, 
 use Rattle.ceu_legal.proofs.Static.{BlockOk, StmtOk, layer_fine, names_of}
 use Rattle.ceu_legal.proofs.UpFits.{finalizes, finalizer_layer, no_finalizer, Sound, layer_of, list_goes}
 
-pauses_no_finalizer : (layer : Layer) → pauses layer ≡ true → finalizes layer ≡ false
+pub pauses_no_finalizer : (layer : Layer) → pauses layer ≡ true → finalizes layer ≡ false
 pauses_no_finalizer (KStmt-F.Finalize b) h = absurd (false≢true h)
 pauses_no_finalizer layer h = refl
 

@@ -4,3 +4,4 @@ pub mod Leaves
 pub mod Choice
 pub mod UpFits
 pub mod LeafFits
+pub mod StepFits
