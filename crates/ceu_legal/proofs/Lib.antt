@@ -5,3 +5,4 @@ pub mod Choice
 pub mod UpFits
 pub mod LeafFits
 pub mod StepFits
+pub mod RunFits

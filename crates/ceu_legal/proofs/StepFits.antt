@@ -145,7 +145,7 @@ module _ (K : Kernel) (proper : is_proper K ≡ true) where
                 moved (Raises (plug (seated seat (Run (n + 1) (Begin c.body)) f) (Run n (Finish s (pos 0))))) (marked (mark.Push (n + 1)) (marked (mark.Spawned (w.given + 1)) u)))
             inner true = tt
             inner false =
-                let b = around_raised K (omega arith) a in
+                let b = around_raised K {t = suc n} {u = suc (suc n)} (omega arith) a in
                 (around_trail a h (pausing_trail p),
                 plug_fits K (seated_around (suc (suc n)) seat (Run (n + 1) (Begin c.body)) c q (to_begin (omega arith)) b h (pausing_trail p)) (paused (suc (suc n)) (omega arith) p))
 

@@ -191,7 +191,7 @@ module _ (K : Kernel) (proper : is_proper K ≡ true) where
         go false q = (p, in_par par.And slot bs e (ap not q) (h refl))
 
     -- an exit never leaves the body that is its last aim
-    inside_body : (node m : ℕ) (a : Aim) → aim_node a ≡ m → aimed node (a ∷ []) ≡ true → (node == m) ≡ false → ⊥
+    pub inside_body : (node m : ℕ) (a : Aim) → aim_node a ≡ m → aimed node (a ∷ []) ≡ true → (node == m) ≡ false → ⊥
     inside_body node m a e h f = false≢true (not_here node m a [] e f h)
 
     pub frame_trail : {t : ℕ} {fr : Frame} {d e : Part} → FrameFits K t fr d e → Sound d → in_trail e → in_trail d
