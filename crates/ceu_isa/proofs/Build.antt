@@ -11,6 +11,7 @@ use Rattle.ceu_code.specs.declared.image.Image.{Image}
 use Rattle.ceu_code.specs.declared.image.CodeRow.{CodeRow}
 use Rattle.ceu_mem.specs.Bytes.{number_at, with_number}
 use Rattle.ceu_isa.specs.Layout.{each_gate, gates_from}
+use Rattle.ceu_isa.specs.Cells.{popped, pushed}
 use Rattle.ceu_isa.specs.Fetching.{readers, read_by, decoded, fetched}
 use Rattle.ceu_isa.specs.Pools.{filled, vacancies, free_place, some_taken}
 use Rattle.ceu_isa.specs.Rows.{effect}
@@ -69,5 +70,5 @@ outputs c = (filter is_output (marks_of c), ending c)
 
 -- what computes
 unfoldable pub computed : ℕ
-unfolding number_at with_number each_gate gates_from readers read_by decoded fetched filled vacancies free_place some_taken effect chain_in before found tick ticks longest_turn next_turn reaction advanced idle_turns done all_done run
+unfolding popped pushed number_at with_number each_gate gates_from readers read_by decoded fetched filled vacancies free_place some_taken effect chain_in before found tick ticks longest_turn next_turn reaction advanced idle_turns done all_done run
 computed = 0

@@ -1,0 +1,4 @@
+//! The machine: one turn of an image over its memory.
+#![tactic(auto)]
+
+mod cells;
