@@ -50,7 +50,7 @@ pub fn push(image: &Image, mem: &mut Memory, regs: &mut Registers, v: i128)
 }
 
 /// The position of a number.
-fn place(image: &Image, position: u16) -> Pos
+pub fn place(image: &Image, position: u16) -> Pos
     requires { IsSome (slice_get image.now.places position) }
     ensures { slice_get image.now.places position ≡ Some result }
 {

@@ -2,3 +2,7 @@
 #![tactic(auto)]
 
 mod cells;
+mod gates;
+mod slots;
+mod trails;
+mod words;
