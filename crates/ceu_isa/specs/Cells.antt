@@ -38,12 +38,12 @@ abbrev pub top_value : Ty → Registers → List ℕ → ℤ
 top_value t r bytes = value_at (cell_type t) bytes (cell_at (r.depth - 1))
 
 -- the top cell's value, which is one of the type
-abbrev pub popped : Image → Ty → Registers → List ℕ → Option Popped
+unfoldable pub popped : Image → Ty → Registers → List ℕ → Option Popped
 popped image t r bytes =
     if has_top image r && is_value t (top_value t r bytes) then Some (record { value = top_value t r bytes; registers = below r }) else None
 
 -- the value goes on a new cell
-abbrev pub pushed : Image → ℤ → Registers → List ℕ → Effect
+unfoldable pub pushed : Image → ℤ → Registers → List ℕ → Effect
 pushed image v r bytes =
     provided (nat_lt r.depth image.depth) (Goes (record r { depth = r.depth + 1 }) (with_number 8 (cell v) bytes (cell_at r.depth)) [])
 

@@ -66,10 +66,10 @@ end_of image = 16 + 8 * image.depth + 19 * image.gates + image.slots
 abbrev pub in_slots : Image → (at size : ℕ) → Bool
 in_slots image at size = nat_le (slots_at image) at && nat_le (at + size) (end_of image)
 
-abbrev pub gate_of : Image → List ℕ → ℕ → Gate
+unfoldable pub gate_of : Image → List ℕ → ℕ → Gate
 gate_of image bytes g = gate_at (gates_at image) bytes g
 
-abbrev pub gate_put : Image → Gate → ℕ → List ℕ → List ℕ
+unfoldable pub gate_put : Image → Gate → ℕ → List ℕ → List ℕ
 gate_put image gate g bytes = with_gate (gates_at image) gate bytes g
 
 -- a gate with what f makes of it

@@ -32,7 +32,7 @@ outer_frame bytes frame = number_at 2 bytes (frame + 2)
 abbrev pub outer_base : List ℕ → (frame : ℕ) → ℕ
 outer_base bytes frame = number_at 2 bytes (frame + 4)
 
-abbrev pub linked : (back frame base : ℕ) → (at : ℕ) → List ℕ → List ℕ
+unfoldable pub linked : (back frame base : ℕ) → (at : ℕ) → List ℕ → List ℕ
 linked back frame base at bytes = with_number 2 0 (with_number 2 base (with_number 2 frame (with_number 2 back bytes at) (at + 2)) (at + 4)) (at + 6)
 
 -- ---- arguments, which are popped from the last to the first
@@ -79,7 +79,7 @@ abbrev pub place_size : CodeRow → ℕ
 place_size row = 9 + row.frame
 
 -- a free place; its number stays
-abbrev pub vacant : (pool gate : ℕ) → (at : ℕ) → List ℕ → List ℕ
+unfoldable pub vacant : (pool gate : ℕ) → (at : ℕ) → List ℕ → List ℕ
 vacant pool gate at bytes = with_number 2 pool (with_number 2 gate (with_number 1 0 bytes at) (at + 5)) (at + 7)
 
 -- n places one after the other, each with the gates behind those of the place before
@@ -101,7 +101,7 @@ no_alias = 65535
 abbrev pub has_alias : Image → Registers → (alias : ℕ) → Bool
 has_alias image r alias = (alias == no_alias) || in_slots image (here r alias) 8
 
-abbrev pub alias_set : Registers → (alias place number : ℕ) → List ℕ → List ℕ
+unfoldable pub alias_set : Registers → (alias place number : ℕ) → List ℕ → List ℕ
 alias_set r alias place number bytes =
     if alias == no_alias then bytes else with_number 4 number (with_number 4 place bytes (here r alias)) (here r alias + 4)
 
@@ -113,13 +113,13 @@ free_place zero space at bytes = None
 free_place (suc n) space at bytes = elim (number_at 1 bytes at == 0) [ true ↦ Some at | false ↦ free_place n space (at + space) bytes ]
 
 -- a place is taken, and its instance can run
-abbrev pub seated : (number : ℕ) → Registers → (place : ℕ) → List ℕ → List ℕ
+unfoldable pub seated : (number : ℕ) → Registers → (place : ℕ) → List ℕ → List ℕ
 seated number r place bytes = linked 65535 r.frame r.base (place + 9) (with_number 4 number (with_number 1 1 bytes place) (place + 1))
 
 abbrev pub begun_at : CodeRow → (level place first : ℕ) → Gate → Gate
 begun_at row level place first gate = record gate { kind = can_run; level = level; code = row.entry; frame = place + 9; base = first }
 
-abbrev pub instance_begun : Image → CodeRow → (alias place first : ℕ) → Registers → Filled → List ℕ
+unfoldable pub instance_begun : Image → CodeRow → (alias place first : ℕ) → Registers → Filled → List ℕ
 instance_begun image row alias place first r f =
     gate_changed image (begun_at row (top_of f.bytes + 1) place first) first
     (alias_set r alias place (given_of f.bytes + 1) (seated (given_of f.bytes + 1) r place (with_given (given_of f.bytes + 1) f.bytes)))
@@ -174,7 +174,7 @@ life_at image bytes place number =
     then (if (number_at 1 bytes place == 1) && (number_at 4 bytes (place + 1) == number) then life_in image bytes place (code_of_pool image (number_at 2 bytes (place + 7))) else Over)
     else Unclear
 
-abbrev pub life_of : Image → List ℕ → (alias : ℕ) → Life
+unfoldable pub life_of : Image → List ℕ → (alias : ℕ) → Life
 life_of image bytes alias =
     if in_slots image alias 8
     then (if number_at 4 bytes alias == 0 then Over else life_at image bytes (number_at 4 bytes alias) (number_at 4 bytes (alias + 4)))

@@ -1,5 +1,6 @@
-ghost use Rattle.std.specs.Prelude.{◌≡◌, ◌≤◌, ◌<◌, ◌+◌, ◌*◌, length, replicate, IfOk};
+ghost use Rattle.std.specs.Prelude.{◌≡◌, ◌≤◌, ◌<◌, ◌+◌, ◌*◌, ◌^◌, length, replicate, IfOk};
 ghost use Rattle.ceu_base.specs.Values.{IsValue};
+ghost use Rattle.ceu_mem.specs.Bytes.{number_at, with_number};
 ghost use Rattle.ceu_mem.specs.Memory as spec;
 ghost use Rattle.ceu_mem.specs.Memory.{gate_at, with_gate, value_at, with_value};
 
@@ -102,6 +103,25 @@ impl Memory {
     {
         let bits = v.rem_euclid(0x1_0000_0000_0000_0000) as u64;
         set_number(self.bytes.as_mut_slice(), at as usize, size(ty), bits);
+    }
+
+    /// The number of so many bytes at a place, at most 8.
+    pub fn number(&self, width: u8, at: u32) -> u64
+        requires narrow { width ≤ 8 }
+        requires within { at + width ≤ length self.now.bytes }
+        ensures value { result ≡ number_at width self.now.bytes at }
+        ensures below { result < 256 ^ width }
+    {
+        number(self.bytes.as_slice(), at as usize, width)
+    }
+
+    /// Writes a number into so many bytes at a place; what is over is dropped.
+    pub fn set_number(&mut self, width: u8, at: u32, n: u64)
+        requires { at + width ≤ length self.old.bytes }
+        ensures bytes { self.new.bytes ≡ with_number width n self.old.bytes at }
+        ensures gates { self.new.gates_at ≡ self.old.gates_at }
+    {
+        set_number(self.bytes.as_mut_slice(), at as usize, width, n);
     }
 
     pub fn gate(&self, g: u16) -> Gate
