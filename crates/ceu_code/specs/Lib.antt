@@ -1,3 +1,4 @@
 pub mod Table
 pub mod Spelling
 pub mod Instructions
+pub mod Reading

@@ -1,15 +1,19 @@
 //! The flat code that a program becomes: instructions, images, and the one spelling of an image as bytes.
 #![tactic(auto)]
 
+mod decoding;
 mod encoding;
 mod image;
 mod instr;
+mod number;
+
 mod span;
 mod spelled;
 mod table;
 #[cfg(test)]
 mod tests;
 
+pub use decoding::DecodeError;
 pub use encoding::encode;
 pub use image::{CodeRow, Image, copy_ports, memory_size};
 pub use instr::{Instr, TimeUnit};
