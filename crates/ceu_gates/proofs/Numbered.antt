@@ -1,15 +1,14 @@
 -- In a proper kernel the ranges are numbered from 0, so that the range of a node stands in the list at its number.
-use Rattle.std.proofs.Common.{◌≡◌, refl, ap, sym, ◌∙◌, ℕ, zero, suc, ◌+◌, ◌<◌, Bool, true, false, ◌&&◌, nat_eq, eqb, IsTrue, List, [], ◌∷◌, ◌++◌, length, get_or, slice_index, map, ◌==◌, if◌then◌else◌, zero-add, arith}
+use Rattle.std.proofs.Common.{◌≡◌, refl, ap, sym, ◌∙◌, ℕ, zero, suc, ◌+◌, ◌<◌, Bool, true, false, IsTrue, List, [], ◌∷◌, ◌++◌, length, get_or, map, ◌==◌, if◌then◌else◌, zero-add, arith}
 use Rattle.std.proofs.lemmas.List.{map-append, length-map}
 use Rattle.std.proofs.lemmas.Bool.{eq-eqb, eqb-true, ne_eqb}
-use Rattle.ceu_base.specs.declared.kinds.Ty.TheVariants as ty
 use Rattle.ceu_tree.specs.declared.kernel.Kernel.{Kernel}
 use Rattle.ceu_tree.specs.declared.kernel.KCode.{KCode}
 use Rattle.ceu_tree.specs.declared.kernel.KBlock.{KBlock, KBlock', Row_of-KNode, end_of-KNode, more_of-KNode}
 use Rattle.ceu_tree.specs.declared.kernel.KArm.{KArm, KArm'}
 use Rattle.ceu_tree.specs.declared.kernel.KStmt.{KStmt, Row_of-KArm, end_of-KArm, more_of-KArm, Row_of-KBlock, end_of-KBlock, more_of-KBlock, Async, Finalize, Do, If', Loop, Par'}
 use Rattle.ceu_tree.specs.Needs.{finalizers, nodes_finalizers, pools_gates, block_gates, gates_from}
-use Rattle.ceu_tree.specs.Numbering.{stmt_nodes, block_nodes, arm_nodes, list_nodes, arms_nodes, blocks_nodes, codes_nodes, counts_from, is_numbered, block_slots, codes_slots}
+use Rattle.ceu_tree.specs.Numbering.{stmt_nodes, block_nodes, arm_nodes, list_nodes, arms_nodes, blocks_nodes, codes_nodes, counts_from, is_numbered}
 use Rattle.ceu_tree.specs.Proper.{is_proper, Proper}
 use Rattle.ceu_gates.specs.declared.ranges.GateRange.{GateRange}
 use Rattle.ceu_gates.specs.Ranges.{starts, stmt_ranges, block_ranges, arm_ranges, nodes_ranges, arms_ranges, blocks_ranges, codes_ranges, ranges, number_of, the_first, the_count, first_gate, gate_count, nodes, IsByNode}

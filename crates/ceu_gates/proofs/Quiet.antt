@@ -1,8 +1,7 @@
 -- In an async and in a finalizer of a proper kernel nothing waits, so all of it has one gate; and each range lies within that of its block.
-use Rattle.std.proofs.Common.{◌≡◌, refl, ap, ◌∙◌, ℕ, zero, suc, ◌+◌, ◌*◌, ◌≤◌, max, Bool, true, false, ◌&&◌, IsTrue, List, [], ◌∷◌, ◌++◌, length, Option, Some, None, nat_le, nat_lt, zero-le, arith, lit≤}
+use Rattle.std.proofs.Common.{◌≡◌, refl, ◌∙◌, ℕ, ◌+◌, ◌≤◌, max, false, ◌&&◌, IsTrue, List, [], ◌∷◌, nat_le, arith, lit≤}
 use Rattle.std.specs.List.{list_all}
 use Rattle.ceu_tree.specs.declared.kernel.Kernel.{Kernel}
-use Rattle.ceu_tree.specs.declared.kernel.KCode.{KCode}
 use Rattle.ceu_tree.specs.declared.kernel.KDecl.{KDecl}
 use Rattle.ceu_tree.specs.declared.kernel.KKind.{KKind}
 use Rattle.ceu_tree.specs.declared.kernel.KKind.TheVariants as kind
@@ -10,14 +9,12 @@ use Rattle.ceu_tree.specs.declared.kernel.KLoop.{KLoop}
 use Rattle.ceu_tree.specs.declared.kernel.KLoop.TheVariants as turns
 use Rattle.ceu_tree.specs.declared.kernel.KBlock.{KBlock, KBlock', Row_of-KNode, end_of-KNode, more_of-KNode}
 use Rattle.ceu_tree.specs.declared.kernel.KArm.{KArm, KArm'}
-use Rattle.ceu_tree.specs.declared.kernel.KStmt.{KStmt, Row_of-KArm, end_of-KArm, more_of-KArm, Row_of-KBlock, end_of-KBlock, more_of-KBlock, AwaitCode, Async, Finalize, Do, If', Loop, Par'}
-use Rattle.ceu_tree.specs.Needs.{entry, finalizers, nodes_finalizers, pool_gates, pools_gates, stmt_gates, block_gates, nodes_gates, arm_gates, arms_gates, blocks_gates, gates_from, greatest_of, gates}
-use Rattle.ceu_tree.specs.Proper.{Scope, is_trail, outside_finalizers, with_decls, with_turns, with_aim, do_aim, LoopAim, in_async, in_finalizer, decl_ok, loop_ok, par_ok, gives, on_code, stmt_ok, block_ok, arm_ok, nodes_ok, arms_ok, blocks_ok, codes_ok, body_scope}
+use Rattle.ceu_tree.specs.declared.kernel.KStmt.{KStmt, Row_of-KArm, end_of-KArm, more_of-KArm, AwaitCode, Finalize, Do, If', Loop, Par'}
+use Rattle.ceu_tree.specs.Needs.{finalizers, nodes_finalizers, pool_gates, pools_gates, stmt_gates, block_gates, nodes_gates, arm_gates, arms_gates}
+use Rattle.ceu_tree.specs.Proper.{Scope, is_trail, outside_finalizers, with_decls, with_turns, with_aim, do_aim, LoopAim, decl_ok, loop_ok, par_ok, gives, stmt_ok, block_ok, arm_ok, nodes_ok, arms_ok}
 use Rattle.ceu_base.specs.declared.kinds.Ty.TheVariants as ty
 use Rattle.ceu_tree.specs.Mentions.{all_set}
 use Rattle.ceu_tree.specs.Numbering.{row_length}
-use Rattle.ceu_gates.specs.Ranges.{reach, range, starts, stmt_ranges, block_ranges, arm_ranges, nodes_ranges, arms_ranges, blocks_ranges, codes_ranges, ranges}
-use Rattle.ceu_gates.proofs.Reaches.{reach_append}
 use Rattle.ceu_gates.proofs.Tests.{both_left, both_right, contrary}
 
 one_gate : (f p m : ℕ) → f ≡ 0 → p ≡ 0 → m ≤ 1 → max 1 (f + p + m) ≡ 1

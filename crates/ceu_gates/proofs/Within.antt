@@ -1,17 +1,17 @@
 -- In a proper kernel the range of each node lies within that of the block around it.
-use Rattle.std.proofs.Common.{◌≡◌, refl, ap, subst, sym, ◌∙◌, ℕ, zero, suc, ◌+◌, ◌*◌, ◌≤◌, max, Bool, true, false, ◌&&◌, IsTrue, List, [], ◌∷◌, ◌++◌, length, nat_le, Some, None, zero-le, arith}
+use Rattle.std.proofs.Common.{◌≡◌, refl, ap, sym, ◌∙◌, ℕ, ◌+◌, ◌≤◌, max, ◌&&◌, IsTrue, List, [], ◌∷◌, ◌++◌, length, nat_le, Some, None, zero-le, arith}
 use Rattle.std.specs.List.{list_all}
 use Rattle.ceu_tree.specs.declared.kernel.Kernel.{Kernel}
 use Rattle.ceu_tree.specs.declared.kernel.KCode.{KCode}
 use Rattle.ceu_tree.specs.declared.kernel.KBlock.{KBlock, KBlock', Row_of-KNode, end_of-KNode, more_of-KNode}
 use Rattle.ceu_tree.specs.declared.kernel.KArm.{KArm, KArm'}
-use Rattle.ceu_tree.specs.declared.kernel.KStmt.{KStmt, Row_of-KArm, end_of-KArm, more_of-KArm, Row_of-KBlock, end_of-KBlock, more_of-KBlock, AwaitCode, Async, Finalize, Do, If', Loop, Par'}
+use Rattle.ceu_tree.specs.declared.kernel.KStmt.{KStmt, Row_of-KArm, end_of-KArm, more_of-KArm, Row_of-KBlock, end_of-KBlock, more_of-KBlock, Async, Finalize, Do, If', Loop, Par'}
 use Rattle.ceu_tree.specs.Needs.{finalizers, nodes_finalizers, pools_gates, stmt_gates, block_gates, nodes_gates, arm_gates, arms_gates, blocks_gates, gates_from, greatest_of, gates}
 use Rattle.ceu_tree.specs.Proper.{Scope, is_trail, outside_finalizers, with_decls, with_turns, with_aim, do_aim, LoopAim, in_async, in_finalizer, decl_ok, loop_ok, par_ok, gives, stmt_ok, block_ok, arm_ok, nodes_ok, arms_ok, blocks_ok, codes_ok, body_scope, is_parameter, is_proper, ports_ok, events_ok, Proper}
 use Rattle.ceu_base.specs.declared.kinds.Ty.TheVariants as ty
 use Rattle.ceu_tree.specs.Mentions.{all_set, outer_names_from}
 use Rattle.ceu_tree.specs.Numbering.{row_length, is_numbered}
-use Rattle.ceu_gates.specs.Ranges.{reach, range, starts, stmt_ranges, block_ranges, arm_ranges, nodes_ranges, arms_ranges, blocks_ranges, codes_ranges, ranges}
+use Rattle.ceu_gates.specs.Ranges.{reach, starts, stmt_ranges, block_ranges, arm_ranges, nodes_ranges, arms_ranges, blocks_ranges, codes_ranges, ranges}
 use Rattle.ceu_gates.proofs.Reaches.{reach_append}
 use Rattle.ceu_gates.proofs.Tests.{both_left, both_right}
 use Rattle.ceu_gates.proofs.Quiet.{quiet_block}

@@ -1,4 +1,4 @@
-use Rattle.std.proofs.Common.{◌≡◌, ◌≤◌, [], arith}
+use Rattle.std.proofs.Common.{arith}
 use Rattle.std.proofs.lemmas.Grind.{common_steps}
 use Rattle.ceu_gates.proofs.Within.{parts_within, whole_ranges}
 use Rattle.ceu_gates.proofs.plan.place_all.Goals as goal

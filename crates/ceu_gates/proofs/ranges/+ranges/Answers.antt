@@ -1,6 +1,4 @@
-use Rattle.std.proofs.Common.{◌≡◌, ◌+◌, ◌<◌, ◌≤◌, ◌++◌, ◌^◌, max, length, drop, arith}
-use Rattle.std.proofs.lemmas.Grind.{common_steps}
-use Rattle.ceu_tree.specs.Greatest.{greatest, total}
+use Rattle.std.proofs.Common.{◌≡◌, ◌+◌, ◌<◌, ◌≤◌, ◌++◌, length, arith}
 use Rattle.ceu_tree.specs.Needs as need
 use Rattle.ceu_gates.specs.Ranges as spec
 use Rattle.ceu_gates.specs.Ranges.{reach}
