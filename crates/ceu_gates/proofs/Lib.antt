@@ -5,3 +5,4 @@ pub mod Reaches
 pub mod Tests
 pub mod Quiet
 pub mod Within
+pub mod Numbered

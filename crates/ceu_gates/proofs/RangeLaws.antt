@@ -115,7 +115,7 @@ ranges_of_block gates g (KBlock' n ds x list) =
     let first = range n g (block_gates gates (KBlock' n ds x list)) in
     ap (λ k. first ∷ nodes_ranges gates g (g + (k + pools_gates gates ds)) list) (finalizers_row list ∙ sym (ap (total node_finalizers) (items_shown-the_row-KNode-2 x list))) ∙
     ap (λ k. first ∷ k) (nodes_row gates g (g + (total node_finalizers (out-KBlock (KBlock' n ds x list)).list + pools_gates gates ds)) list ∙
-        sym (ap (list_ranges gates g (g + (total node_finalizers (out-KBlock (KBlock' n ds x list)).list + pools_gates gates ds))) (items_shown-the_row-KNode-2 x list)))
+    sym (ap (list_ranges gates g (g + (total node_finalizers (out-KBlock (KBlock' n ds x list)).list + pools_gates gates ds))) (items_shown-the_row-KNode-2 x list)))
 
 pub ranges_of_arm : (gates : List ℕ) (g : ℕ) (a : KArm) → arm_ranges gates g a ≡ block_ranges gates g (out-KArm a).body
 unfolding stmt_ranges out-KArm Carrier.out

@@ -10,7 +10,7 @@ use Rattle.ceu_tree.specs.declared.kernel.KStmt.{KStmt, Finalize}
 use Rattle.ceu_tree.specs.Greatest.{greatest, total}
 use Rattle.ceu_tree.specs.Needs.{finalizers, stmt_gates, block_gates}
 use Rattle.ceu_gates.specs.declared.ranges.GateRange.{GateRange}
-use Rattle.ceu_gates.specs.Ranges.{reach, starts, node_ranges, list_ranges, arm_ranges, arm_list_ranges, block_ranges, block_list_ranges, nodes_ranges, stmt_ranges}
+use Rattle.ceu_gates.specs.Ranges.{reach, starts, node_ranges, list_ranges, arm_ranges, arm_list_ranges, block_ranges, block_list_ranges, stmt_ranges}
 
 pub reach_append : (xs ys : List GateRange) → reach (xs ++ ys) ≡ max (reach xs) (reach ys)
 reach_append [] ys = grind arith

@@ -1,16 +1,17 @@
 -- In a proper kernel the range of each node lies within that of the block around it.
-use Rattle.std.proofs.Common.{◌≡◌, refl, ap, subst, sym, ◌∙◌, ℕ, zero, suc, ◌+◌, ◌*◌, ◌≤◌, max, Bool, true, false, ◌&&◌, IsTrue, List, [], ◌∷◌, ◌++◌, length, nat_le, zero-le, arith}
+use Rattle.std.proofs.Common.{◌≡◌, refl, ap, sym, ◌∙◌, ℕ, ◌+◌, ◌≤◌, max, ◌&&◌, IsTrue, List, [], ◌∷◌, ◌++◌, length, nat_le, Some, None, zero-le, arith}
 use Rattle.std.specs.List.{list_all}
 use Rattle.ceu_tree.specs.declared.kernel.Kernel.{Kernel}
 use Rattle.ceu_tree.specs.declared.kernel.KCode.{KCode}
 use Rattle.ceu_tree.specs.declared.kernel.KBlock.{KBlock, KBlock', Row_of-KNode, end_of-KNode, more_of-KNode}
 use Rattle.ceu_tree.specs.declared.kernel.KArm.{KArm, KArm'}
-use Rattle.ceu_tree.specs.declared.kernel.KStmt.{KStmt, Row_of-KArm, end_of-KArm, more_of-KArm, Row_of-KBlock, end_of-KBlock, more_of-KBlock, AwaitCode, Async, Finalize, Do, If', Loop, Par'}
+use Rattle.ceu_tree.specs.declared.kernel.KStmt.{KStmt, Row_of-KArm, end_of-KArm, more_of-KArm, Row_of-KBlock, end_of-KBlock, more_of-KBlock, Async, Finalize, Do, If', Loop, Par'}
 use Rattle.ceu_tree.specs.Needs.{finalizers, nodes_finalizers, pools_gates, stmt_gates, block_gates, nodes_gates, arm_gates, arms_gates, blocks_gates, gates_from, greatest_of, gates}
 use Rattle.ceu_tree.specs.Proper.{Scope, is_trail, outside_finalizers, with_decls, with_turns, with_aim, do_aim, LoopAim, in_async, in_finalizer, decl_ok, loop_ok, par_ok, gives, stmt_ok, block_ok, arm_ok, nodes_ok, arms_ok, blocks_ok, codes_ok, body_scope, is_parameter, is_proper, ports_ok, events_ok, Proper}
+use Rattle.ceu_base.specs.declared.kinds.Ty.TheVariants as ty
 use Rattle.ceu_tree.specs.Mentions.{all_set, outer_names_from}
 use Rattle.ceu_tree.specs.Numbering.{row_length, is_numbered}
-use Rattle.ceu_gates.specs.Ranges.{reach, range, starts, stmt_ranges, block_ranges, arm_ranges, nodes_ranges, arms_ranges, blocks_ranges, codes_ranges, ranges}
+use Rattle.ceu_gates.specs.Ranges.{reach, starts, stmt_ranges, block_ranges, arm_ranges, nodes_ranges, arms_ranges, blocks_ranges, codes_ranges, ranges}
 use Rattle.ceu_gates.proofs.Reaches.{reach_append}
 use Rattle.ceu_gates.proofs.Tests.{both_left, both_right}
 use Rattle.ceu_gates.proofs.Quiet.{quiet_block}
@@ -48,23 +49,23 @@ module _ (K : Kernel) (names : List (List ℕ)) (table : List ℕ) where
     within_stmt : (sc : Scope) (n : ℕ) (s : KStmt) (g : ℕ) → IsTrue (stmt_ok K names sc n s) → reach (stmt_ranges table g s) ≤ g + stmt_gates table s
     within_stmt sc n (Async b) g ok =
         let ok' = both_right (is_trail sc.place) _ ok in
-        let one : block_gates table b ≡ 1 = quiet_block K names table (in_async sc) b refl ok' in
-        let inner : reach (block_ranges table g b) ≤ g + block_gates table b = within_block (in_async sc) b g ok' in
+        let one : block_gates table b ≡ 1 = quiet_block K names table (in_async K sc) b refl ok' in
+        let inner : reach (block_ranges table g b) ≤ g + block_gates table b = within_block (in_async K sc) b g ok' in
         omega (arith, one, inner)
     within_stmt sc n (Finalize b) g ok =
         let ok' = both_right (is_trail sc.place) _ ok in
-        let one : block_gates table b ≡ 1 = quiet_block K names table (in_finalizer sc) b refl ok' in
-        let inner : reach (block_ranges table g b) ≤ g + block_gates table b = within_block (in_finalizer sc) b g ok' in
+        let one : block_gates table b ≡ 1 = quiet_block K names table (in_finalizer K sc) b refl ok' in
+        let inner : reach (block_ranges table g b) ≤ g + block_gates table b = within_block (in_finalizer K sc) b g ok' in
         omega (arith, one, inner)
-    within_stmt sc n (Do t b) g ok = within_block (with_aim (do_aim n t) sc) b g (both_right (outside_finalizers sc.place && _) _ ok)
+    within_stmt sc n (Do t b) g ok = within_block (with_aim (do_aim K n t) sc) b g (both_right (outside_finalizers sc.place && _) _ ok)
     within_stmt sc n (If' _ arms last) g ok =
         let parts : IsTrue (outside_finalizers sc.place && arms_ok K names sc arms) = both_left (outside_finalizers sc.place && arms_ok K names sc arms) _ ok in
         above _ g (arms_gates table arms) (block_gates table last)
         (join_within _ (reach (arms_ranges table g arms)) (reach (block_ranges table g last)) _ _ (reach_append (arms_ranges table g arms) (block_ranges table g last))
         (within_arms sc arms g (both_right (outside_finalizers sc.place) _ parts)) (within_block sc last g (both_right (outside_finalizers sc.place && arms_ok K names sc arms) _ ok)))
-    within_stmt sc n (Loop k b) g ok = within_block (with_aim (LoopAim n) (with_turns k sc)) b g (both_right (outside_finalizers sc.place && loop_ok K sc k) _ ok)
-    within_stmt sc n (Par' k slot _ bs) g ok = within_blocks sc bs g (both_right (is_trail sc.place && par_ok k slot (row_length bs)) _ ok)
-    within_stmt sc n _ g ok = zero-le _
+    within_stmt sc n (Loop k b) g ok = within_block (with_aim (LoopAim n) (with_turns K k sc)) b g (both_right (outside_finalizers sc.place && loop_ok K sc k) _ ok)
+    within_stmt sc n (Par' k slot _ bs) g ok = within_blocks sc bs g (both_right (is_trail sc.place && par_ok K k slot (row_length bs)) _ ok)
+    within_stmt sc n _ g ok = zero-le
 
     pub within_block : (sc : Scope) (b : KBlock) (g : ℕ) → IsTrue (block_ok K names sc b) → reach (block_ranges table g b) ≤ g + block_gates table b
     within_block sc (KBlock' n ds x list) g ok =
@@ -72,7 +73,7 @@ module _ (K : Kernel) (names : List (List ℕ)) (table : List ℕ) where
         (within_nodes (with_decls ds sc) list g (g + (nodes_finalizers list + pools_gates table ds)) (both_right (list_all (decl_ok K sc) ds && all_set names ds list) _ ok))
 
     within_nodes : {n : _} (sc : Scope) (r : Row_of-KNode n) (f g : ℕ) → IsTrue (nodes_ok K names sc r) → reach (nodes_ranges table f g r) ≤ max (f + nodes_finalizers r) (g + nodes_gates table r)
-    within_nodes sc end_of-KNode f g ok = zero-le _
+    within_nodes sc end_of-KNode f g ok = zero-le
     within_nodes sc (more_of-KNode n p s rest) f g ok =
         let here = within_stmt sc n s (starts f g s) (both_right (nat_le 1 p.line && nat_le 1 p.col) _ (both_left (nat_le 1 p.line && nat_le 1 p.col && stmt_ok K names sc n s) _ ok)) in
         let more = within_nodes sc rest (f + finalizers s) g (both_right (nat_le 1 p.line && nat_le 1 p.col && stmt_ok K names sc n s) _ ok) in
@@ -81,17 +82,17 @@ module _ (K : Kernel) (names : List (List ℕ)) (table : List ℕ) where
         (ap (max (starts f g s + stmt_gates table s)) (sym (reach_append (stmt_ranges table (starts f g s) s) (nodes_ranges table (f + finalizers s) g rest)))) (start_within f g s) here more refl
 
     within_arm : (sc : Scope) (a : KArm) (g : ℕ) → IsTrue (arm_ok K names sc a) → reach (arm_ranges table g a) ≤ g + arm_gates table a
-    within_arm sc (KArm' c b) g ok = within_block sc b g (both_right (gives K sc _ c) _ ok)
+    within_arm sc (KArm' c b) g ok = within_block sc b g (both_right (gives K sc ty.Bool c) _ ok)
 
     within_arms : {n : _} (sc : Scope) (r : Row_of-KArm n) (g : ℕ) → IsTrue (arms_ok K names sc r) → reach (arms_ranges table g r) ≤ g + arms_gates table r
-    within_arms sc end_of-KArm g ok = zero-le _
+    within_arms sc end_of-KArm g ok = zero-le
     within_arms sc (more_of-KArm a rest) g ok =
         above _ g (arm_gates table a) (arms_gates table rest)
         (join_within _ (reach (arm_ranges table g a)) (reach (arms_ranges table g rest)) _ _ (reach_append (arm_ranges table g a) (arms_ranges table g rest))
         (within_arm sc a g (both_left (arm_ok K names sc a) _ ok)) (within_arms sc rest g (both_right (arm_ok K names sc a) _ ok)))
 
     within_blocks : {n : _} (sc : Scope) (r : Row_of-KBlock n) (g : ℕ) → IsTrue (blocks_ok K names sc r) → reach (blocks_ranges table g r) ≤ g + blocks_gates table r
-    within_blocks sc end_of-KBlock g ok = zero-le _
+    within_blocks sc end_of-KBlock g ok = zero-le
     within_blocks sc (more_of-KBlock b rest) g ok =
         beside _ (reach (block_ranges table g b)) (reach (blocks_ranges table (g + block_gates table b) rest)) g (block_gates table b) (blocks_gates table rest)
         (reach_append (block_ranges table g b) (blocks_ranges table (g + block_gates table b) rest)) (within_block sc b g (both_left (block_ok K names sc b) _ ok))
@@ -120,7 +121,7 @@ code_over a b c x r e f g h = grind arith
 
 module _ (K : Kernel) (names : List (List ℕ)) where
   codes_within : (k : ℕ) (table : List ℕ) (cs : List KCode) → IsTrue (codes_ok K names k cs) → reach (codes_ranges table cs) ≤ greatest_of (gates_from table cs)
-  codes_within k table [] ok = zero-le _
+  codes_within k table [] ok = zero-le
   codes_within k table (c ∷ cs) ok =
       let first = both_left (list_all (is_parameter K names) c.params && nat_le (length c.params) 255 && block_ok K names (with_decls c.params (body_scope K names (Some k) c.body c.result)) c.body) _ ok in
       let body = both_right (list_all (is_parameter K names) c.params && nat_le (length c.params) 255) _ first in
@@ -138,5 +139,27 @@ unfolding is_proper ranges gates
 ranges_within K ok =
     let names = outer_names_from [] K.codes in
     let all = gates_from [] K.codes in
-    let numbers : Bool = is_numbered K && ports_ok (K.inputs ++ K.outputs) && events_ok (length K.codes) K.events in
-    ?
+    let body = body_scope K names None K.body ty.S32 in
+    let first : IsTrue (is_numbered K && ports_ok (K.inputs ++ K.outputs) && events_ok (length K.codes) K.events && block_ok K names body K.body) = both_left _ (codes_ok K names 0 K.codes) ok in
+    whole _ (reach (block_ranges all 0 K.body)) (reach (codes_ranges [] K.codes)) (block_gates all K.body) (greatest_of all) (reach_append (block_ranges all 0 K.body) (codes_ranges [] K.codes))
+    (within_block K names all body K.body 0 (both_right (is_numbered K && ports_ok (K.inputs ++ K.outputs) && events_ok (length K.codes) K.events) _ first))
+    (codes_within K names 0 [] K.codes (both_right (is_numbered K && ports_ok (K.inputs ++ K.outputs) && events_ok (length K.codes) K.events && block_ok K names body K.body) _ ok))
+
+most_left : (a b c d : ℕ) → d ≡ max a b → d ≤ c → a ≤ c
+most_left a b c d e h = grind arith
+
+most_right : (a b c d : ℕ) → d ≡ max a b → d ≤ c → b ≤ c
+most_right a b c d e h = grind arith
+
+-- what the walk asks of its parts
+pub parts_within : (K : Kernel) → reach (ranges K) ≤ 65535 → (reach (block_ranges (gates_from [] K.codes) 0 K.body) ≤ 65535) × (reach (codes_ranges [] K.codes) ≤ 65535)
+unfolding ranges
+parts_within K h =
+    let body = reach (block_ranges (gates_from [] K.codes) 0 K.body) in
+    let codes = reach (codes_ranges [] K.codes) in
+    let both = reach_append (block_ranges (gates_from [] K.codes) 0 K.body) (codes_ranges [] K.codes) in
+    (most_left body codes 65535 (reach (ranges K)) both h, most_right body codes 65535 (reach (ranges K)) both h)
+
+pub whole_ranges : (K : Kernel) → ranges K ≡ block_ranges (gates_from [] K.codes) 0 K.body ++ codes_ranges [] K.codes
+unfolding ranges
+whole_ranges K = refl

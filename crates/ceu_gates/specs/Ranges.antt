@@ -3,7 +3,7 @@
 -- A block has the gates of its finalizers first, in textual order, then those of its pools, in textual order with the places of each pool one after
 -- the other. Behind them all its other statements start at one gate, since one of them stands at a time. The branches of a par stand side by
 -- side; every other part starts where its statement does. A code's body starts at 0.
-use Rattle.std.specs.Prelude.{ℕ, zero, suc, ◌+◌, ◌*◌, ◌==◌, if◌then◌else◌, List, [], ◌∷◌, ◌++◌, map}
+use Rattle.std.specs.Prelude.{◌≡◌, ℕ, ◌+◌, ◌*◌, ◌<◌, ◌==◌, if◌then◌else◌, List, [], ◌∷◌, ◌++◌, length, slice_index}
 use Rattle.ceu_gates.specs.declared.ranges.GateRange.{GateRange}
 use Rattle.ceu_tree.specs.declared.kernel.Kernel.{Kernel}
 use Rattle.ceu_tree.specs.declared.kernel.KCode.{KCode}
@@ -13,6 +13,7 @@ use Rattle.ceu_tree.specs.declared.kernel.KNode.{KNode}
 use Rattle.ceu_tree.specs.declared.kernel.KArm.{KArm, KArm'}
 use Rattle.ceu_tree.specs.declared.kernel.KStmt.{KStmt, Row_of-KArm, end_of-KArm, more_of-KArm, Row_of-KBlock, end_of-KBlock, more_of-KBlock, Async, Do, If', Loop, Par', Finalize}
 use Rattle.ceu_tree.specs.Greatest.{greatest}
+use Rattle.ceu_tree.specs.Numbering.{block_nodes, codes_nodes}
 use Rattle.ceu_tree.specs.Needs.{entry, finalizers, nodes_finalizers, pool_gates, pools_gates, stmt_gates, block_gates, gates_from}
 
 abbrev pub range : (node first count : ℕ) → GateRange
@@ -81,20 +82,23 @@ codes_ranges gates (c ∷ cs) = block_ranges gates 0 c.body ++ codes_ranges (gat
 unfoldable pub ranges : Kernel → List GateRange
 ranges K = block_ranges (gates_from [] K.codes) 0 K.body ++ codes_ranges [] K.codes
 
-abbrev pub first_of : (node : ℕ) → List GateRange → ℕ
-first_of node [] = 0
-first_of node (r ∷ rs) = if r.node == node then r.first else first_of node rs
+-- what a list says of a node
+abbrev pub number_of : (GateRange → ℕ) → (node : ℕ) → List GateRange → ℕ
+number_of f node [] = 0
+number_of f node (r ∷ rs) = if r.node == node then f r else number_of f node rs
 
-abbrev pub count_of : (node : ℕ) → List GateRange → ℕ
-count_of node [] = 0
-count_of node (r ∷ rs) = if r.node == node then r.count else count_of node rs
+abbrev pub the_first : GateRange → ℕ
+the_first r = r.first
+
+abbrev pub the_count : GateRange → ℕ
+the_count r = r.count
 
 -- the first gate of a node, and how many it has
 unfoldable pub first_gate : Kernel → (node : ℕ) → ℕ
-first_gate K node = first_of node (ranges K)
+first_gate K node = number_of the_first node (ranges K)
 
 unfoldable pub gate_count : Kernel → (node : ℕ) → ℕ
-gate_count K node = count_of node (ranges K)
+gate_count K node = number_of the_count node (ranges K)
 
 -- behind the last gate that one of them has
 abbrev pub reach : List GateRange → ℕ
@@ -114,3 +118,13 @@ pool_first gates first slot (d ∷ ds) = if d.slot == slot then first else pool_
 -- the first gate of a place of a pool of code: the places stand one after the other
 abbrev pub instance_first : List ℕ → (first code place : ℕ) → ℕ
 instance_first gates first code place = first + place * entry code gates
+
+-- ---- the plan as two lists by node number
+
+abbrev pub nodes : Kernel → List ℕ
+nodes K = block_nodes K.body ++ codes_nodes K.codes
+
+-- a list that has this number at each node of the kernel, and nothing else
+pub record IsByNode (K : Kernel) (number : ℕ → ℕ) (xs : List ℕ) : Type 0 where
+  pub one_each : length xs ≡ length (nodes K)
+  pub each : (node : ℕ) → node < length xs → slice_index xs node ≡ number node

@@ -2,7 +2,9 @@
 #![tactic(auto)]
 
 mod needs;
+mod plan;
 mod ranges;
 
 pub use needs::gate_need;
+pub use plan::{GatePlan, gate_plan};
 pub use ranges::GateRange;

@@ -129,7 +129,7 @@ fn place_if(
 
 #[cycle(ranges)]
 #[tactic(auto, using(crate::proofs::RangeLaws::ranges, ceu_tree::proofs::GateLaws::gate_needs, ceu_tree::proofs::Sizes::sizes, crate::proofs::Reaches::reaches))]
-fn place_block(
+pub fn place_block(
     gates: &[u32],
     first: u32,
     block: &KBlock,
@@ -144,7 +144,11 @@ fn place_block(
     let own = finalizers(nodes).saturating_add(pools_gates(gates, block.decls.items()));
     let base = first.saturating_add(own);
     let at = rows.len();
-    rows.push(GateRange { node, first, count: 0 })?;
+    rows.push(GateRange {
+        node,
+        first,
+        count: 0,
+    })?;
     let most = place_nodes(gates, first, base, nodes, rows)?;
     let count = own.saturating_add(most).max(1);
     put(rows, at, GateRange { node, first, count });
@@ -189,9 +193,21 @@ fn place_node(
 {
     let number = node.node;
     let at = rows.len();
-    rows.push(GateRange { node: number, first, count: 0 })?;
+    rows.push(GateRange {
+        node: number,
+        first,
+        count: 0,
+    })?;
     let count = place_parts(gates, first, &node.stmt, rows)?;
-    put(rows, at, GateRange { node: number, first, count });
+    put(
+        rows,
+        at,
+        GateRange {
+            node: number,
+            first,
+            count,
+        },
+    );
     Ok(count)
 }
 

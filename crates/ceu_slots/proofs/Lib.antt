@@ -1,2 +1,4 @@
 pub mod NeedSums
 pub mod FrameCuts
+pub mod PlaceLaws
+pub mod Walks

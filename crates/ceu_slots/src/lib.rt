@@ -1,6 +1,8 @@
 //! How many bytes the slots of a program take, and where each of them lies.
 #![tactic(auto)]
 
+mod layout;
 mod needs;
 
+pub use layout::SlotPlace;
 pub use needs::slot_need;

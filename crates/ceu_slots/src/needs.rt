@@ -24,7 +24,7 @@ fn type_size(ty: Ty) -> u32
 }
 
 #[tactic(auto, using(ceu_tree::proofs::CutLaws::cuts))]
-fn decl_size(frames: &[u32], kind: KKind) -> u32
+pub fn decl_size(frames: &[u32], kind: KKind) -> u32
     ensures { result ≡ cut (spec.decl_size frames.now kind) }
 {
     match kind {
@@ -65,7 +65,7 @@ fn branch_size(kind: ParKind) -> u32
 }
 
 // Two parts of one place: side by side in the plain layout, else in the same bytes.
-fn apart(plain: bool, first: u32, second: u32) -> u32
+pub fn apart(plain: bool, first: u32, second: u32) -> u32
     ensures { result ≡ cut (spec.apart plain first second) }
 {
     if plain {
@@ -171,7 +171,7 @@ fn branches_need(plain: bool, frames: &[u32], each: u32, branches: &[KBlock]) ->
     need
 }
 
-fn frame_of(plain: bool, frames: &[u32], code: &KCode) -> u32
+pub fn frame_of(plain: bool, frames: &[u32], code: &KCode) -> u32
     ensures { result ≡ cut (spec.frame_of plain frames.now code.now) }
 {
     let link_and_params = decls_size(frames, code.params.items()).saturating_add(8);

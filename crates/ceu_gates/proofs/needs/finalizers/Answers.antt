@@ -1,4 +1,4 @@
-use Rattle.std.proofs.Common.{◌≡◌, ◌<◌, length, ap, sym, add-one, arith}
+use Rattle.std.proofs.Common.{◌<◌, length, ap, sym, add-one, arith}
 use Rattle.std.proofs.lemmas.Grind.{common_steps}
 use Rattle.ceu_tree.specs.Needs.{node_finalizers}
 use Rattle.ceu_tree.proofs.TableLaws.{total_more}

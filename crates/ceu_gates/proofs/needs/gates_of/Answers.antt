@@ -1,4 +1,4 @@
-use Rattle.std.proofs.Common.{◌≡◌, ◌<◌, ◌∷◌, [], length, take, ap, sym, add-one, arith}
+use Rattle.std.proofs.Common.{◌<◌, ◌∷◌, [], length, take, ap, sym, add-one, arith}
 use Rattle.std.proofs.lemmas.List.{map-append}
 use Rattle.std.proofs.lemmas.Grind.{common_steps}
 use Rattle.ceu_tree.specs.Cut.{cut}

@@ -1,6 +1,4 @@
-use Rattle.std.proofs.Common.{◌≡◌, ◌+◌, ◌<◌, ◌≤◌, ◌++◌, ◌^◌, max, length, drop, arith}
-use Rattle.std.proofs.lemmas.Grind.{common_steps}
-use Rattle.ceu_tree.specs.Greatest.{greatest, total}
+use Rattle.std.proofs.Common.{◌≡◌, ◌+◌, ◌<◌, ◌≤◌, ◌++◌, length, arith}
 use Rattle.ceu_tree.specs.Needs as need
 use Rattle.ceu_gates.specs.Ranges as spec
 use Rattle.ceu_gates.specs.Ranges.{reach}
@@ -22,7 +20,7 @@ place_arms-loop-arm-preserved t c =
     record {
       rows = arms_goes_on c.args.gates.now c.args.arms.now c.loop-arm.arm-index c.args.first c.arm-item.result c.arm-item.is below (c.args.rows.now.items ++ spec.arm_list_ranges c.args.gates.now c.args.first c.args.arms.now) c.loop-arm.rows.items c.place_arm.new.rows.items c.loop-arm.invariant.rows c.in_ok-place_arm.ensures.rows;
       count = grind (arith, next, c.loop-arm.invariant.count, c.in_ok-place_arm.ensures.count, c.max-most.ensures);
-      fits = grind (arith, far, c.loop-arm.invariant.fits)
+      fits = grind (arith, far, c.loop-arm.invariant.fits);
     }
 
 pub place_branches-place_block-requires : goal.place_branches-place_block-requires
@@ -41,7 +39,7 @@ place_branches-loop-branch-preserved t c =
     let own = block_reached c.args.gates.now (c.args.first + c.loop-branch.sum) c.branch-item.result in
     let start : c.saturating_add.result ≡ c.args.first + c.loop-branch.sum = grind (arith, far, own, c.loop-branch.invariant.fits, c.saturating_add.ensures) in
     let sum : c.saturating_add-sum.result ≡ c.loop-branch.sum + need.block_gates c.args.gates.now c.branch-item.result =
-        grind (arith, far, own, c.loop-branch.invariant.fits, c.in_ok-count.ensures.count, c.saturating_add-sum.ensures) in
+    grind (arith, far, own, c.loop-branch.invariant.fits, c.in_ok-count.ensures.count, c.saturating_add-sum.ensures) in
     let later : c.args.first + c.saturating_add-sum.result ≡ c.args.first + c.loop-branch.sum + need.block_gates c.args.gates.now c.branch-item.result = omega (arith, sum) in
     let next = total_next (need.block_gates c.args.gates.now) c.args.branches.now c.loop-branch.branch-index c.branch-item.result c.branch-item.is below in
     let step = c.in_ok-count.ensures.rows in
@@ -49,7 +47,7 @@ place_branches-loop-branch-preserved t c =
       rows = rw later (blocks_goes_on c.args.gates.now c.args.branches.now c.loop-branch.branch-index (c.args.first + c.loop-branch.sum) c.branch-item.result c.branch-item.is below
           (c.args.rows.now.items ++ spec.block_list_ranges c.args.gates.now c.args.first c.args.branches.now) c.loop-branch.rows.items c.place_block.new.rows.items c.loop-branch.invariant.rows (rw start at step));
       count = omega (arith, sum, next, c.loop-branch.invariant.count);
-      fits = rw later (grind (arith, far, c.loop-branch.invariant.fits))
+      fits = rw later (grind (arith, far, c.loop-branch.invariant.fits));
     }
 
 pub place_nodes-place_node-requires : goal.place_nodes-place_node-requires
@@ -75,5 +73,5 @@ place_nodes-loop-node-preserved t c =
           (c.args.rows.now.items ++ spec.list_ranges c.args.gates.now c.args.finalizer c.args.first c.args.nodes.now) c.loop-node.rows.items c.place_node.new.rows.items c.loop-node.invariant.rows (rw c.start_of-start.ensures at step));
       count = grind (arith, next, c.loop-node.invariant.count, c.in_ok-place_node.ensures.count, c.max-most.ensures);
       fits = rw sum (grind (arith, far, c.loop-node.invariant.fits));
-      small = rw sum fits
+      small = rw sum fits;
     }

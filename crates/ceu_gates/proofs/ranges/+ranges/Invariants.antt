@@ -1,4 +1,4 @@
-use Rattle.std.proofs.Common.{◌≡◌, ◌+◌, ◌*◌, ◌<◌, ◌≤◌, ◌^◌, ◌++◌, max, drop, length}
+use Rattle.std.proofs.Common.{◌≡◌, ◌+◌, ◌*◌, ◌<◌, ◌≤◌, ◌^◌, ◌++◌, max, drop}
 use Rattle.ceu_tree.specs.Greatest.{greatest, total}
 use Rattle.ceu_tree.specs.Needs as need
 use Rattle.ceu_tree.proofs.Sizes.{stmt_size, block_size, node_list_size, arm_size, arm_list_size, block_list_size}
@@ -38,19 +38,19 @@ invariant-place_nodes-loop-node l = record {
   rows : l.initial.rows.items ++ spec.list_ranges l.gates l.finalizer l.first l.nodes ≡ l.rows.items ++ spec.list_ranges l.gates l.next l.first (drop l.node-index l.nodes);
   count : greatest (need.node_gates l.gates) l.nodes ≡ max l.most (greatest (need.node_gates l.gates) (drop l.node-index l.nodes));
   fits : reach (spec.list_ranges l.gates l.next l.first (drop l.node-index l.nodes)) ≤ 65535;
-  small : l.next < 2 ^ 32
+  small : l.next < 2 ^ 32;
 }
 
 abbrev pub invariant-place_arms-loop-arm : goal.invariant-place_arms-loop-arm
 invariant-place_arms-loop-arm l = record {
   rows : l.initial.rows.items ++ spec.arm_list_ranges l.gates l.first l.arms ≡ l.rows.items ++ spec.arm_list_ranges l.gates l.first (drop l.arm-index l.arms);
   count : greatest (need.arm_gates l.gates) l.arms ≡ max l.most (greatest (need.arm_gates l.gates) (drop l.arm-index l.arms));
-  fits : reach (spec.arm_list_ranges l.gates l.first (drop l.arm-index l.arms)) ≤ 65535
+  fits : reach (spec.arm_list_ranges l.gates l.first (drop l.arm-index l.arms)) ≤ 65535;
 }
 
 abbrev pub invariant-place_branches-loop-branch : goal.invariant-place_branches-loop-branch
 invariant-place_branches-loop-branch l = record {
   rows : l.initial.rows.items ++ spec.block_list_ranges l.gates l.first l.branches ≡ l.rows.items ++ spec.block_list_ranges l.gates (l.first + l.sum) (drop l.branch-index l.branches);
   count : total (need.block_gates l.gates) l.branches ≡ l.sum + total (need.block_gates l.gates) (drop l.branch-index l.branches);
-  fits : reach (spec.block_list_ranges l.gates (l.first + l.sum) (drop l.branch-index l.branches)) ≤ 65535
+  fits : reach (spec.block_list_ranges l.gates (l.first + l.sum) (drop l.branch-index l.branches)) ≤ 65535;
 }
