@@ -1,6 +1,7 @@
 //! Laws of the reference semantics, each the contract of a function with an empty body.
 #![tactic(auto)]
 
+ghost use Rattle.ceu_laws.specs.AbortOrder.{AbortsBegun, AbortsInOrder};
 ghost use Rattle.ceu_laws.specs.Finalizers.{FinalizersBalance};
 ghost use Rattle.ceu_laws.specs.Order.{EventWakes, FirstRuns, FirstServed, InputWakes};
 ghost use Rattle.ceu_laws.specs.Steps.{OneOutcome, ReactionsStand, RunsStand};
@@ -44,4 +45,15 @@ pub fn event_wakes()
 /// An input changes exactly the leaves that wait for it.
 pub fn input_wakes()
     ensures { InputWakes }
+{}
+
+/// An abortion in which no finalizer faults runs the finalizers that stand registered in its part once each: inner before outer, branches and instances
+/// from the last to the first, and in a block the last registered first.
+pub fn aborts_in_order()
+    ensures { AbortsInOrder }
+{}
+
+/// Where a finalizer faults, or none does, those that have run are the first of that order.
+pub fn aborts_begun()
+    ensures { AbortsBegun }
 {}
