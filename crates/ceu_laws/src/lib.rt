@@ -2,7 +2,7 @@
 #![tactic(auto)]
 
 ghost use Rattle.ceu_laws.specs.AbortOrder.{AbortsBegun, AbortsInOrder};
-ghost use Rattle.ceu_laws.specs.Finalizers.{FinalizersBalance};
+ghost use Rattle.ceu_laws.specs.Finalizers.{FinalizersAtMost, FinalizersBalance};
 ghost use Rattle.ceu_laws.specs.Order.{EventWakes, FirstRuns, FirstServed, InputWakes};
 ghost use Rattle.ceu_laws.specs.Steps.{OneOutcome, ReactionsStand, RunsStand};
 
@@ -10,6 +10,11 @@ ghost use Rattle.ceu_laws.specs.Steps.{OneOutcome, ReactionsStand, RunsStand};
 /// has run and stands registered. None stands once the program has ended or faulted.
 pub fn finalizers_balance()
     ensures { FinalizersBalance }
+{}
+
+/// In every run, also where a finalizer faulted, the runs of a finalizer and those that stand registered are no more than its registrations.
+pub fn finalizers_at_most()
+    ensures { FinalizersAtMost }
 {}
 
 /// A step is a function, so a reaction has one outcome: once it is over, a larger bound on its steps gives the same.
