@@ -1,5 +1,5 @@
 -- An abortion runs each registered finalizer exactly once, unless one faults.
-use Rattle.std.proofs.Common.{◌≡◌, refl, sym, ap, ◌∙◌, ℕ, ◌+◌, ℤ, List, [], ◌∷◌, ◌++◌, Some, None, Ok, Err, arith}
+use Rattle.std.proofs.Common.{◌≡◌, refl, sym, ap, ◌∙◌, ◌≤◌, ℕ, ◌+◌, ℤ, List, [], ◌∷◌, ◌++◌, Some, None, Ok, Err, arith}
 use Rattle.ceu_base.specs.declared.kinds.Pos.{Pos}
 use Rattle.ceu_base.specs.declared.kinds.Mark.{Mark}
 use Rattle.ceu_base.specs.declared.kinds.Mark.TheVariants.{Output, Resume, Push, Pop, Registered, Ran, Spawned, Full}
@@ -12,8 +12,8 @@ use Rattle.ceu_tree.specs.declared.kernel.KStmt as kernel
 use Rattle.ceu_tree.specs.declared.kernel.KStmt.{KStmt, Assign, Out}
 use Rattle.ceu_tree.specs.Residual.{Body, Awaited, Spawned as InstanceBody, Residual, Over, Run, WaitInput, WaitTime, WaitEvent, WaitForever, InAsync, Block, Open, Loop, Call, Par, Branches, no_branch, branch, Instances, no_instance, instance}
 use Rattle.ceu_tree.specs.Expressions.{Answer, value_of, value_if}
-use Rattle.ceu_tree.specs.World.{World, marked, assign, forget, forget_declared, dead}
-use Rattle.ceu_tree.specs.Abort.{or_fault, simple, unless_fault, all_simple, finalizer_list, runs_one, finalized, forget_turns, forget_loop, returned, aborted, branches_aborted, instances_aborted, closed}
+use Rattle.ceu_tree.specs.World.{World, marked, assign, forget, forget_declared}
+use Rattle.ceu_tree.specs.Abort.{or_fault, simple, unless_fault, all_simple, finalizer_list, runs_one, finalized, forget_turns, forget_loop, aborted, branches_aborted, instances_aborted, closed}
 use Rattle.ceu_laws.specs.Finalizers.{once, ran, registered, among, standing, standing_branches, standing_instances}
 
 pub ran_append : (p : Pos) (ms ns : List Mark) → ran p (ms ++ ns) ≡ ran p ms + ran p ns
@@ -42,25 +42,31 @@ registered_append p (Full ∷ ms) ns = registered_append p ms ns
 pub record Kept (p : Pos) (w : World) (m : ℕ) (u : World) (n : ℕ) : Type 0 where
   pub counts : u.fault ≡ None → registered p u.marks + ran p w.marks + m ≡ registered p w.marks + ran p u.marks + n
   pub fine : u.fault ≡ None → w.fault ≡ None
+  pub at_most : registered p w.marks + ran p u.marks + n ≤ registered p u.marks + ran p w.marks + m
 
 -- the marks and the fault are what counts
 pub kept_same : (p : Pos) (w u : World) (n : ℕ) → u.marks ≡ w.marks → u.fault ≡ w.fault → Kept p w n u n
-kept_same p w u n e f = record { counts = λ h. (let a = ap (registered p) e in let b = ap (ran p) e in omega (arith, a, b)); fine = λ h. sym f ∙ h }
+kept_same p w u n e f = record { counts = λ h. (let a = ap (registered p) e in let b = ap (ran p) e in omega (arith, a, b)); fine = λ h. sym f ∙ h; at_most = (let a = ap (registered p) e in let b = ap (ran p) e in omega (arith, a, b)) }
 
 pub kept_mark : (p : Pos) (x : Mark) (w : World) (m n : ℕ) → registered p (x ∷ []) + m ≡ ran p (x ∷ []) + n → Kept p w m (marked x w) n
-kept_mark p x w m n e = record { counts = λ h. omega (arith, e, registered_append p w.marks (x ∷ []), ran_append p w.marks (x ∷ [])); fine = λ h. h }
+kept_mark p x w m n e = record {
+  counts = λ h. omega (arith, e, registered_append p w.marks (x ∷ []), ran_append p w.marks (x ∷ []));
+  fine = λ h. h;
+  at_most = omega (arith, e, registered_append p w.marks (x ∷ []), ran_append p w.marks (x ∷ []));
+}
 
 pub kept_then : (p : Pos) (w u v : World) (k m n : ℕ) → Kept p w k u m → Kept p u m v n → Kept p w k v n
 kept_then p w u v k m n a b = record {
   counts = λ h. (let e = b.counts h in let f = a.counts (b.fine h) in omega (arith, e, f));
   fine = λ h. a.fine (b.fine h);
+  at_most = (let e = a.at_most in let f = b.at_most in omega (arith, e, f));
 }
 
 pub kept_beside : (p : Pos) (w u : World) (m n c : ℕ) → Kept p w m u n → Kept p w (m + c) u (n + c)
-kept_beside p w u m n c a = record { counts = λ h. omega (arith, a.counts h); fine = a.fine }
+kept_beside p w u m n c a = record { counts = λ h. omega (arith, a.counts h); fine = a.fine; at_most = (let e = a.at_most in omega (arith, e)) }
 
 pub kept_equal : (p : Pos) (w u : World) (m n k l : ℕ) → m ≡ k → n ≡ l → Kept p w m u n → Kept p w k u l
-kept_equal p w u m n k l e f a = record { counts = λ h. omega (arith, e, f, a.counts h); fine = a.fine }
+kept_equal p w u m n k l e f a = record { counts = λ h. omega (arith, e, f, a.counts h); fine = a.fine; at_most = (let g = a.at_most in omega (arith, e, f, g)) }
 
 -- a change of values alone
 pub record Quiet (w u : World) : Type 0 where
@@ -94,31 +100,31 @@ forget_loop_quiet body _ w = quiet w
 
 or_fault_kept : (p : Pos) (a : Answer) (w : World) (go : ℤ → World) (n : ℕ) → ((v : ℤ) → Kept p w n (go v) n) → Kept p w n (or_fault a w go) n
 or_fault_kept p (Ok v) w go n h = h v
-or_fault_kept p (Err e) w go n h = record { counts = λ k. omega arith; fine = λ k. absurd (cc) }
+or_fault_kept p (Err e) w go n h = record { counts = λ k. omega arith; fine = λ k. absurd (cc); at_most = omega arith }
 
 simple_kept : (p : Pos) (s : KStmt) (body : Body) (w : World) (n : ℕ) → Kept p w n (simple s body w) n
 simple_kept p (Assign l e) body w n = or_fault_kept p (value_of e body w) w (λ v. assign body l v w) n (λ v. kept_same p w (assign body l v w) n refl refl)
 simple_kept p (Out k e) body w n = or_fault_kept p (value_if e body w) w (λ v. marked (Output k v) w) n (λ v. kept_mark p (Output k v) w n n refl)
 simple_kept p _ body w n = kept_same p w w n refl refl
 
-unless_kept : (p : Pos) (f : World → World) (w : World) (m n : ℕ) → Kept p w m (f w) n → Kept p w m (unless_fault f w) n
-unless_kept p f w m n r = go w.fault refl
+unless_kept : (p : Pos) (f : World → World) (w : World) (m n : ℕ) → n ≤ m → Kept p w m (f w) n → Kept p w m (unless_fault f w) n
+unless_kept p f w m n l r = go w.fault refl
   where
     go : (o : _) → w.fault ≡ o → Kept p w m (elim o [ Some e ↦ w | None ↦ f w ]) n
     go None e = r
-    go (Some x) e = record { counts = λ h. absurd (cc); fine = λ h. h }
+    go (Some x) e = record { counts = λ h. absurd (cc); fine = λ h. h; at_most = omega (arith, l) }
 
 all_simple_kept : (p : Pos) (ss : List KNode) (body : Body) (w : World) (n : ℕ) → Kept p w n (all_simple ss body w) n
 all_simple_kept p [] body w n = kept_same p w w n refl refl
 all_simple_kept p (s ∷ ss) body w n =
-    kept_then p w (unless_fault (simple s.stmt body) w) _ n n n (unless_kept p (simple s.stmt body) w n n (simple_kept p s.stmt body w n))
+    kept_then p w (unless_fault (simple s.stmt body) w) _ n n n (unless_kept p (simple s.stmt body) w n n (omega arith) (simple_kept p s.stmt body w n))
     (all_simple_kept p ss body (unless_fault (simple s.stmt body) w) n)
 
 pub finalized_kept : (p : Pos) (ss : List KNode) (body : Body) (w : World) (c : ℕ) → Kept p w (among p ss + c) (finalized ss body w) c
 finalized_kept p [] body w c = kept_equal p w w c c (0 + c) c (omega arith) refl (kept_same p w w c refl refl)
 finalized_kept p (s ∷ ss) body w c =
     kept_then p w (unless_fault (runs_one s body) w) _ (once p s.pos + among p ss + c) (among p ss + c) c
-    (unless_kept p (runs_one s body) w _ _
+    (unless_kept p (runs_one s body) w _ _ (omega arith)
     (kept_then p w (marked (Ran s.pos) w) _ _ (among p ss + c) _ (kept_mark p (Ran s.pos) w _ _ (omega arith)) (all_simple_kept p (finalizer_list s.stmt) body (marked (Ran s.pos) w) _)))
     (finalized_kept p ss body _ c)
 

@@ -1,11 +1,11 @@
 -- What stands registered in a focus, and in the tree that it is of.
-use Rattle.std.proofs.Common.{◌≡◌, refl, sym, ap, ◌∙◌, ℕ, ◌+◌, ℤ, Bool, true, false, if◌then◌else◌, ◌==◌, List, [], ◌∷◌, Option, Some, None, arith}
+use Rattle.std.proofs.Common.{◌≡◌, refl, ap, ◌+◌, List, Option, Some, None, arith}
 use Rattle.ceu_base.specs.declared.kinds.Pos.{Pos}
 use Rattle.ceu_tree.specs.declared.kernel.KNode.{KNode}
 use Rattle.ceu_tree.specs.declared.kernel.KBlock.{KBlock}
-use Rattle.ceu_tree.specs.Residual.{Act, Seat, Residual, Over, Run, WaitInput, WaitTime, WaitEvent, WaitForever, InAsync, Block, Open, Loop, Call, Par, Branches, no_branch, branch, Instances, no_instance, instance}
+use Rattle.ceu_tree.specs.Residual.{Seat, Residual, Over, Run, WaitInput, WaitTime, WaitEvent, WaitForever, InAsync, Block, Open, Loop, Call, Par, Branches, no_branch, branch, Instances, no_instance, instance}
 use Rattle.ceu_tree.specs.Focus.{Frame, OfBlock, OfInstance, OfOpen, OfLoop, OfCall, OfPar, Focus, Here, In, join, join_instances, fill, plug, graft, leaf, here, under, or_else, ChosenBranch, no_chosen_branch, chosen_branch, ChosenInstance, no_chosen_instance, chosen_instance, first_branch, first_instance, in_par, in_block, choose, choose_branch, choose_instance}
-use Rattle.ceu_laws.specs.Finalizers.{among, standing, standing_branches, standing_instances, standing_frame, standing_focus}
+use Rattle.ceu_laws.specs.Finalizers.{standing, standing_branches, standing_instances, standing_frame, standing_focus}
 
 pub join_stands : (p : Pos) (before bs : Branches) → standing_branches p (join before bs) ≡ standing_branches p before + standing_branches p bs
 unfolding standing

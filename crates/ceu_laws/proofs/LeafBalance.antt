@@ -1,9 +1,8 @@
 -- What a leaf does by itself registers and runs no finalizer, and what it opens has none.
-use Rattle.std.proofs.Common.{◌≡◌, refl, sym, ap, ◌∙◌, ℕ, ◌+◌, ℤ, Bool, true, false, if◌then◌else◌, List, [], ◌∷◌, Option, Some, None, Result, Ok, Err, arith}
+use Rattle.std.proofs.Common.{◌≡◌, refl, ℕ, ℤ, Bool, true, false, if◌then◌else◌, List, [], ◌∷◌, Option, Some, None, Result, Ok, Err, arith}
 use Rattle.ceu_base.specs.declared.kinds.Pos.{Pos}
 use Rattle.ceu_base.specs.declared.kinds.Fault.{Fault}
 use Rattle.ceu_base.specs.declared.kinds.Mark.TheVariants as mark
-use Rattle.ceu_base.specs.Values.{same}
 use Rattle.ceu_tree.specs.declared.kernel.Kernel.{Kernel}
 use Rattle.ceu_tree.specs.declared.kernel.KCode.{KCode}
 use Rattle.ceu_tree.specs.declared.kernel.KDecl.{KDecl}
@@ -11,15 +10,15 @@ use Rattle.ceu_tree.specs.declared.kernel.KLoop.{KLoop}
 use Rattle.ceu_tree.specs.declared.kernel.KLoop.TheVariants as turns
 use Rattle.ceu_tree.specs.declared.kernel.Loc.{Loc}
 use Rattle.ceu_tree.specs.declared.kernel.KNode.{KNode}
-use Rattle.ceu_tree.specs.declared.kernel.KBlock.{KBlock, out-KBlock}
+use Rattle.ceu_tree.specs.declared.kernel.KBlock.{KBlock}
 use Rattle.ceu_tree.specs.declared.kernel.KStmt.{out-KStmt}
 use Rattle.ceu_tree.specs.declared.kernel.KStmt.TheOpen.{KStmt-F}
-use Rattle.ceu_tree.specs.Residual.{Body, Awaited, Act, Begin, Start, Finish, AtEnd, AtHead, Again, Residual, Branches, no_branch, branch}
-use Rattle.ceu_tree.specs.World.{World, Cell, Holds, NotSet, Names, marked, set, assign, assign_if, set_parameters, set_alias, look}
+use Rattle.ceu_tree.specs.Residual.{Body, Awaited, Act, Begin, Start, Finish, AtEnd, AtHead, Again}
+use Rattle.ceu_tree.specs.World.{World, Cell, Holds, NotSet, Names, set, assign_if, set_parameters, set_alias, look}
 use Rattle.ceu_tree.specs.Expressions.{names_living, value_of, value_if, values_of}
-use Rattle.ceu_tree.specs.Leaf.{Layer, Does, Opens, Waits, Passes, Leaves, Registers, Ends, Heads, Emits, Spawns, Kills, Fails, Done, done, or_fails, branches_from, in_branches, chosen_part, loop_reached, called, spawning, killing, code_at, started, acted, target}
+use Rattle.ceu_tree.specs.Leaf.{Layer, Does, Opens, Waits, Passes, Ends, Heads, Spawns, Kills, Fails, Done, done, or_fails, branches_from, in_branches, chosen_part, loop_reached, called, spawning, killing, code_at, started, acted, target}
 use Rattle.ceu_laws.specs.Finalizers.{standing, standing_branches, standing_focus}
-use Rattle.ceu_laws.proofs.Balance.{Kept, kept_same, kept_mark, kept_then, kept_equal, Quiet, quiet, quiet_then, kept_quiet}
+use Rattle.ceu_laws.proofs.Balance.{Kept, kept_same, kept_mark, Quiet, quiet}
 
 abbrev pub Fresh : Pos → Does → Type 0
 Fresh p (Opens x) = standing_focus p x ≡ 0

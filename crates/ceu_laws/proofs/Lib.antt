@@ -6,3 +6,4 @@ pub mod StepBalance
 pub mod RunBalance
 pub mod StepLaws
 pub mod Order
+pub mod AbortOrder

@@ -3,7 +3,7 @@ use Rattle.std.proofs.Common.{◌≡◌, refl, sym, ap, ◌∙◌, ℕ, ℤ, Boo
 use Rattle.ceu_tree.specs.declared.kernel.KNode.{KNode}
 use Rattle.ceu_tree.specs.declared.kernel.KBlock.{KBlock}
 use Rattle.ceu_tree.specs.Residual.{Act, Finish, Seat, Residual, Over, Run, WaitInput, WaitTime, WaitEvent, WaitForever, InAsync, Block, Open, Loop, Call, Par, Branches, no_branch, branch, Instances, no_instance, instance}
-use Rattle.ceu_tree.specs.Focus.{Frame, OfBlock, OfOpen, OfLoop, OfCall, Focus, Here, In, leaf, here, under, or_else, ChosenBranch, no_chosen_branch, chosen_branch, ChosenInstance, no_chosen_instance, chosen_instance, first_branch, first_instance, in_par, in_block, choose, choose_branch, choose_instance}
+use Rattle.ceu_tree.specs.Focus.{Frame, OfBlock, OfOpen, OfLoop, OfCall, Focus, leaf, here, under, or_else, ChosenBranch, no_chosen_branch, chosen_branch, ChosenInstance, no_chosen_instance, chosen_instance, first_branch, first_instance, in_par, in_block, choose, choose_branch, choose_instance}
 use Rattle.ceu_tree.specs.Wake.{each_leaf, each_in_branches, each_in_instances, leaves, leaves_of_branches, leaves_of_instances, runs_at, by_event, by_input, Unserved, unserved}
 use Rattle.ceu_laws.specs.Order.{first_of, leaf_of, FirstRuns, FirstServed, EventWakes, InputWakes}
 

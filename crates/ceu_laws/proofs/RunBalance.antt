@@ -6,16 +6,14 @@ use Rattle.ceu_base.specs.declared.kinds.Mark.TheVariants as mark
 use Rattle.ceu_tree.specs.declared.command.Command.{Command}
 use Rattle.ceu_tree.specs.declared.command.Command.TheVariants.{Input, Advance, Idle}
 use Rattle.ceu_tree.specs.declared.kernel.Kernel.{Kernel}
-use Rattle.ceu_tree.specs.declared.kernel.KNode.{KNode}
-use Rattle.ceu_tree.specs.Residual.{Body, Program, Act, Begin, Finish, Again, Residual, Over, Run, WaitInput, WaitTime, WaitEvent, WaitForever, InAsync, Block, Open, Loop, Call, Par}
+use Rattle.ceu_tree.specs.Residual.{Body, Program, Act, Finish, Again, Residual, Over, Run, WaitInput, WaitTime, WaitEvent, WaitForever, InAsync, Block, Open, Loop, Call, Par}
 use Rattle.ceu_tree.specs.Focus.{Focus, plug, leaf, body_of, choose}
-use Rattle.ceu_tree.specs.World.{World, empty_world, marked}
-use Rattle.ceu_tree.specs.Abort.{aborted}
+use Rattle.ceu_tree.specs.World.{World, empty_world}
 use Rattle.ceu_tree.specs.Wake.{each_leaf, leaves, runs_at, by_input, later, by_time, least_time, Unserved, unserved, new_round}
-use Rattle.ceu_tree.specs.Around.{Outcome, Goes, Rests, Raises, Fails, Past, Registers, AtBlockEnd, AtLoopHead, Ends, Leaves, Moved}
+use Rattle.ceu_tree.specs.Around.{Outcome, Goes, Rests, Raises, Fails, Past, Registers, AtBlockEnd, AtLoopHead, Ends, Leaves}
 use Rattle.ceu_tree.specs.Step.{stepped}
 use Rattle.ceu_tree.specs.Run.{Config, Turning, Between, Waiting, Ended, Faulted, world_of, faulted, config_of, unless_failed, level_closed, chosen_at, next, steps, reacts, input, advance, is_again, Served, Unfinished, Turned, Done, Failed, serve, serve_first, after_serving, served, idle_turn, idle_turns, done, all_done, booted, run}
-use Rattle.ceu_laws.specs.Finalizers.{ran, registered, standing, standing_focus, standing_config, FinalizersBalance}
+use Rattle.ceu_laws.specs.Finalizers.{standing, standing_focus, standing_config, FinalizersAtMost, FinalizersBalance}
 use Rattle.ceu_laws.proofs.Balance.{Kept, kept_same, kept_mark, kept_then, kept_equal, aborted_kept}
 use Rattle.ceu_laws.proofs.FocusBalance.{plug_stands, Found, FoundIn, choose_found}
 use Rattle.ceu_laws.proofs.UpBalance.{left_whole}
@@ -57,7 +55,7 @@ module _ (p : Pos) where
     where
       go : (o : Option (Fault × Pos)) → u.fault ≡ o → Comes w m (elim o [ Some e ↦ Faulted e u | None ↦ config_of n x u ])
       go None e = kept_then p w u _ _ _ _ a (config_comes n x u)
-      go (Some y) e = record { counts = λ h. absurd (cc); fine = λ h. absurd (cc) }
+      go (Some y) e = record { counts = λ h. absurd (cc); fine = λ h. absurd (cc); at_most = (let b = a.at_most in omega (arith, b)) }
 
   -- a leaf that can run has no finalizers
   picked_stands : (n : ℕ) (r : Residual) (a : Act) → runs_at n r ≡ Some a → standing p r ≡ 0
@@ -238,7 +236,7 @@ module _ (p : Pos) where
     unserved_stands (Par s bs) x e = absurd (cc)
 
     beside : (g : Focus Unserved) (w u : World) (m n k : ℕ) → m + standing_focus p g ≡ k → Kept p w m u n → Kept p w k u (standing_focus p g + n)
-    beside g w u m n k e h = kept_equal p w u (m + standing_focus p g) (n + standing_focus p g) k _ e (omega arith) (record { counts = λ z. omega (arith, h.counts z); fine = h.fine })
+    beside g w u m n k e h = kept_equal p w u (m + standing_focus p g) (n + standing_focus p g) k _ e (omega arith) (record { counts = λ z. omega (arith, h.counts z); fine = h.fine; at_most = (let b = h.at_most in omega (arith, b)) })
 
     after_balances : (k : ℕ) (g : Focus Unserved) (x : Served) (r : Residual) (w : World) → Found Unserved unserved r g → Serves w (standing p (leaf g).inner) x → Comes w (standing p r) (after_serving K k g x r w)
     unfolding standing
@@ -299,3 +297,6 @@ module _ (p : Pos) where
 
 pub finalizers_balance : FinalizersBalance
 finalizers_balance K n xs p h = let a = (run_comes p K n xs).counts h in omega (arith, a)
+
+pub finalizers_at_most : FinalizersAtMost
+finalizers_at_most K n xs p = let a = (run_comes p K n xs).at_most in omega (arith, a)

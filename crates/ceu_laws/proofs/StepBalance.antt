@@ -1,26 +1,26 @@
 -- One step of a trail keeps the balance of registrations, runs and standing finalizers.
-use Rattle.std.proofs.Common.{◌≡◌, refl, sym, ap, ◌∙◌, ℕ, ◌+◌, ℤ, pos, Bool, true, false, if◌then◌else◌, ◌==◌, ◌||◌, nat_lt, List, [], ◌∷◌, Option, Some, None, arith}
+use Rattle.std.proofs.Common.{◌≡◌, refl, sym, ap, ◌∙◌, ℕ, ◌+◌, ℤ, pos, Bool, true, false, if◌then◌else◌, ◌==◌, nat_lt, List, ◌∷◌, Option, Some, None, arith}
 use Rattle.ceu_base.specs.declared.kinds.Pos.{Pos}
 use Rattle.ceu_base.specs.declared.kinds.Fault.TheVariants.{SpawnCount}
 use Rattle.ceu_base.specs.declared.kinds.Mark.TheVariants as mark
 use Rattle.ceu_tree.specs.declared.kernel.Kernel.{Kernel}
 use Rattle.ceu_tree.specs.declared.kernel.KCode.{KCode}
 use Rattle.ceu_tree.specs.declared.kernel.KNode.{KNode}
-use Rattle.ceu_tree.specs.declared.kernel.KBlock.{KBlock, out-KBlock}
+use Rattle.ceu_tree.specs.declared.kernel.KBlock.{out-KBlock}
 use Rattle.ceu_tree.specs.Residual.{Body, Spawned as InstanceBody, Act, Begin, Finish, Seat, Residual, Over, Run, WaitInput, WaitTime, WaitEvent, WaitForever, InAsync, Block, Open, Loop, Call, Par, Branches, no_branch, branch, Instances, no_instance, instance}
-use Rattle.ceu_tree.specs.Focus.{Frame, OfBlock, OfInstance, OfOpen, OfLoop, OfCall, OfPar, Focus, Here, In, fill, plug, graft, leaf, body_of, begins_body, has_body}
+use Rattle.ceu_tree.specs.Focus.{Frame, OfBlock, Focus, Here, In, fill, plug, leaf, body_of, has_body}
 use Rattle.ceu_tree.specs.World.{World, NotSet, Names, marked, set_alias, set_parameters, dead}
 use Rattle.ceu_tree.specs.Abort.{aborted}
 use Rattle.ceu_tree.specs.Wake.{each_leaf, each_in_branches, each_in_instances, by_event, each_in_body, woken}
 use Rattle.ceu_tree.specs.Leaf as does
 use Rattle.ceu_tree.specs.Leaf.{Does, acted}
-use Rattle.ceu_tree.specs.Around.{Outcome, Goes, Rests, Raises, Fails, Past, Registers, AtBlockEnd, AtLoopHead, Leaves, Moved, moved, answered}
-use Rattle.ceu_tree.specs.Step.{event_code, emitted, size_in, free_place, with_instance, seated_if, seat_frame, seated, spawned_at, spawned, unseated, unseat_frame, unseat, killed_in, kill_frame, killed, does_in, stepped}
+use Rattle.ceu_tree.specs.Around.{Outcome, Rests, Raises, Fails, Past, Registers, AtBlockEnd, AtLoopHead, Leaves, Moved, moved, answered}
+use Rattle.ceu_tree.specs.Step.{event_code, size_in, free_place, with_instance, seated_if, seat_frame, seated, spawned_at, spawned, unseated, unseat_frame, unseat, killed_in, kill_frame, killed, does_in, stepped}
 use Rattle.ceu_laws.specs.Finalizers.{among, standing, standing_branches, standing_instances, standing_frame, standing_focus}
 use Rattle.ceu_laws.proofs.Balance.{Kept, kept_same, kept_mark, kept_then, kept_beside, kept_equal, Quiet, quiet, quiet_then, kept_quiet, aborted_kept}
 use Rattle.ceu_laws.proofs.FocusBalance.{fill_stands, plug_stands, graft_stands}
 use Rattle.ceu_laws.proofs.UpBalance.{left, left_whole, answered_balanced}
-use Rattle.ceu_laws.proofs.LeafBalance.{Fresh, FreshDone, set_parameters_quiet, set_alias_quiet, acted_fresh}
+use Rattle.ceu_laws.proofs.LeafBalance.{Fresh, set_parameters_quiet, set_alias_quiet, acted_fresh}
 
 -- ---- a change of leaves that keeps what stands registered
 

@@ -1,5 +1,5 @@
 -- What the parts around a leaf do keeps the balance of registrations, runs and standing finalizers.
-use Rattle.std.proofs.Common.{◌≡◌, refl, sym, ap, ◌∙◌, ℕ, ◌+◌, ℤ, pos, Bool, true, false, if◌then◌else◌, ◌==◌, ◌&&◌, int_lt, List, [], ◌∷◌, Option, Some, None, arith}
+use Rattle.std.proofs.Common.{◌≡◌, refl, sym, ℕ, ◌+◌, ℤ, pos, Bool, true, false, if◌then◌else◌, ◌==◌, int_lt, List, ◌∷◌, Option, Some, None, arith}
 use Rattle.ceu_base.specs.declared.kinds.Pos.{Pos}
 use Rattle.ceu_base.specs.declared.kinds.Mark.TheVariants as mark
 use Rattle.ceu_tree.specs.declared.kernel.KLoop.{KLoop}
@@ -11,13 +11,13 @@ use Rattle.ceu_tree.specs.declared.kernel.KNode.{KNode}
 use Rattle.ceu_tree.specs.declared.kernel.KBlock.{KBlock, out-KBlock}
 use Rattle.ceu_tree.specs.declared.kernel.KStmt.{out-KStmt}
 use Rattle.ceu_tree.specs.declared.kernel.KStmt.TheOpen.{KStmt-F}
-use Rattle.ceu_tree.specs.Residual.{Body, Act, Begin, Counter, Free, Turns, Upward, Seat, Residual, Over, Run, WaitInput, WaitTime, WaitEvent, WaitForever, InAsync, Block, Open, Loop, Call, Par, Branches, no_branch, branch, Instances}
+use Rattle.ceu_tree.specs.Residual.{Body, Act, Counter, Turns, Upward, Over, Run, WaitInput, WaitTime, WaitEvent, WaitForever, InAsync, Block, Open, Loop, Call, Par, Branches, no_branch, branch, Instances}
 use Rattle.ceu_tree.specs.Focus.{Frame, OfBlock, OfInstance, OfOpen, OfLoop, OfCall, OfPar, Focus, Here, In, join, join_instances, fill, plug, body_in}
-use Rattle.ceu_tree.specs.World.{World, marked, assign_if, dead}
-use Rattle.ceu_tree.specs.Abort.{aborted, closed, forget_loop, returned}
-use Rattle.ceu_tree.specs.Leaf.{Layer, Exit, Escape, Break, Continue, target, rest_of}
-use Rattle.ceu_tree.specs.Around.{Outcome, Goes, Rests, Raises, Fails, Past, Registers, AtBlockEnd, AtLoopHead, Ends, Leaves, Moved, moved, value_with, goes_on, body_left, open_left, again, begins_turn, turn_of, next_turn, loop_exit, loop_left, is_over, all_over, kind_of, rejoined, through, up, taken, answered}
-use Rattle.ceu_laws.specs.Finalizers.{once, among, standing, standing_branches, standing_instances, standing_frame, standing_focus}
+use Rattle.ceu_tree.specs.World.{World, assign_if}
+use Rattle.ceu_tree.specs.Abort.{aborted, returned}
+use Rattle.ceu_tree.specs.Leaf.{Layer, Exit, Escape, Break, Continue, target}
+use Rattle.ceu_tree.specs.Around.{Outcome, Goes, Rests, Raises, Fails, Past, Registers, AtBlockEnd, AtLoopHead, Ends, Leaves, Moved, moved, value_with, goes_on, body_left, open_left, again, begins_turn, turn_of, next_turn, loop_exit, loop_left, all_over, kind_of, rejoined, through, up, taken, answered}
+use Rattle.ceu_laws.specs.Finalizers.{among, standing, standing_branches, standing_instances, standing_frame, standing_focus}
 use Rattle.ceu_laws.proofs.Balance.{Kept, kept_same, kept_mark, kept_then, kept_beside, kept_equal, Quiet, quiet, quiet_then, kept_quiet, forget_loop_quiet, aborted_kept, closed_kept}
 use Rattle.ceu_laws.proofs.FocusBalance.{join_stands, join_instances_stands, fill_stands, plug_stands}
 

@@ -1,5 +1,5 @@
 -- How often the finalizer at a position was registered, has run, and stands registered.
-use Rattle.std.specs.Prelude.{◌≡◌, ℕ, ◌+◌, if◌then◌else◌, ◌==◌, ◌&&◌, List, [], ◌∷◌, None}
+use Rattle.std.specs.Prelude.{◌≡◌, ◌≤◌, ℕ, ◌+◌, if◌then◌else◌, ◌==◌, ◌&&◌, List, [], ◌∷◌, None}
 use Rattle.ceu_base.specs.declared.kinds.Pos.{Pos}
 use Rattle.ceu_base.specs.declared.kinds.Mark.{Mark}
 use Rattle.ceu_base.specs.declared.kinds.Mark.TheVariants.{Registered, Ran}
@@ -72,3 +72,7 @@ standing_config p (Faulted e w) = 0
 abbrev pub FinalizersBalance : Type 0
 FinalizersBalance = (K : Kernel) (n : ℕ) (xs : List Command) (p : Pos) → (world_of (run K n xs)).fault ≡ None →
     registered p (world_of (run K n xs)).marks ≡ ran p (world_of (run K n xs)).marks + standing_config p (run K n xs)
+
+-- In every run, also where a finalizer faulted, no finalizer has run more often than it was registered and doesn't stand any more.
+abbrev pub FinalizersAtMost : Type 0
+FinalizersAtMost = (K : Kernel) (n : ℕ) (xs : List Command) (p : Pos) → ran p (world_of (run K n xs)).marks + standing_config p (run K n xs) ≤ registered p (world_of (run K n xs)).marks

@@ -1,3 +1,4 @@
 pub mod Finalizers
 pub mod Steps
 pub mod Order
+pub mod AbortOrder

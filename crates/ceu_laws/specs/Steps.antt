@@ -1,10 +1,8 @@
 -- A bound on steps only cuts a run off: once a run is over, a larger bound gives the same.
-use Rattle.std.specs.Prelude.{◌≡◌, ◌≤◌, ℕ, Bool, true, false, List, Option, Some}
+use Rattle.std.specs.Prelude.{◌≡◌, ◌≤◌, ℕ, false, List}
 use Rattle.ceu_base.specs.declared.kinds.Mark.{Mark}
 use Rattle.ceu_tree.specs.declared.command.Command.{Command}
 use Rattle.ceu_tree.specs.declared.kernel.Kernel.{Kernel}
-use Rattle.ceu_tree.specs.Residual.{Residual}
-use Rattle.ceu_tree.specs.Focus.{Focus, leaf, plug, choose}
 use Rattle.ceu_tree.specs.Run.{Config, Status, is_reacting, steps, run, Runs}
 
 abbrev pub ReactionsStand : Type 0

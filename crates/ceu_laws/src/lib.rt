@@ -1,7 +1,8 @@
 //! Laws of the reference semantics, each the contract of a function with an empty body.
 #![tactic(auto)]
 
-ghost use Rattle.ceu_laws.specs.Finalizers.{FinalizersBalance};
+ghost use Rattle.ceu_laws.specs.AbortOrder.{AbortsBegun, AbortsInOrder};
+ghost use Rattle.ceu_laws.specs.Finalizers.{FinalizersAtMost, FinalizersBalance};
 ghost use Rattle.ceu_laws.specs.Order.{EventWakes, FirstRuns, FirstServed, InputWakes};
 ghost use Rattle.ceu_laws.specs.Steps.{OneOutcome, ReactionsStand, RunsStand};
 
@@ -9,6 +10,11 @@ ghost use Rattle.ceu_laws.specs.Steps.{OneOutcome, ReactionsStand, RunsStand};
 /// has run and stands registered. None stands once the program has ended or faulted.
 pub fn finalizers_balance()
     ensures { FinalizersBalance }
+{}
+
+/// In every run, also where a finalizer faulted, the runs of a finalizer and those that stand registered are no more than its registrations.
+pub fn finalizers_at_most()
+    ensures { FinalizersAtMost }
 {}
 
 /// A step is a function, so a reaction has one outcome: once it is over, a larger bound on its steps gives the same.
@@ -44,4 +50,15 @@ pub fn event_wakes()
 /// An input changes exactly the leaves that wait for it.
 pub fn input_wakes()
     ensures { InputWakes }
+{}
+
+/// An abortion in which no finalizer faults runs the finalizers that stand registered in its part once each: inner before outer, branches and instances
+/// from the last to the first, and in a block the last registered first.
+pub fn aborts_in_order()
+    ensures { AbortsInOrder }
+{}
+
+/// Where a finalizer faults, or none does, those that have run are the first of that order.
+pub fn aborts_begun()
+    ensures { AbortsBegun }
 {}

@@ -1,6 +1,6 @@
 -- The leaf that is chosen of a tree that fits may stand where it is, and a tree of which none is chosen fits under the next lower level.
-use Rattle.std.proofs.Common.{◌≡◌, refl, sym, ap, ◌∙◌, subst, ◌<◌, ◌≤◌, ℕ, zero, suc, ◌+◌, Bool, true, false, if◌then◌else◌, ◌==◌, List, [], ◌∷◌, ◌++◌, Option, Some, None, arith, eqb-true}
-use Rattle.std.proofs.lemmas.Bool.{false≢true, eqb-false}
+use Rattle.std.proofs.Common.{◌≡◌, refl, ap, ◌∙◌, ◌<◌, ℕ, suc, Bool, true, false, if◌then◌else◌, ◌==◌, List, [], ◌∷◌, ◌++◌, Option, Some, None, arith}
+use Rattle.std.proofs.lemmas.Bool.{eqb-false}
 use Rattle.ceu_tree.specs.declared.kernel.Kernel.{Kernel}
 use Rattle.ceu_tree.specs.declared.kernel.KCode.{KCode}
 use Rattle.ceu_tree.specs.declared.kernel.ParKind.{ParKind}
@@ -8,13 +8,13 @@ use Rattle.ceu_tree.specs.declared.kernel.KNode.{KNode}
 use Rattle.ceu_tree.specs.declared.kernel.KBlock.{KBlock, out-KBlock}
 use Rattle.ceu_tree.specs.declared.kernel.KStmt.{out-KStmt}
 use Rattle.ceu_tree.specs.declared.kernel.KStmt.TheOpen.{KStmt-F}
-use Rattle.ceu_tree.specs.Residual.{Act, Seat, Residual, Over, Run, WaitInput, WaitTime, WaitEvent, WaitForever, InAsync, Block, Open, Loop, Call, Par, Branches, no_branch, branch, Instances, no_instance, instance}
-use Rattle.ceu_tree.specs.Focus.{Frame, OfBlock, OfInstance, OfOpen, OfLoop, OfCall, OfPar, Focus, Here, In, fill, plug, leaf, here, under, or_else, ChosenBranch, no_chosen_branch, chosen_branch, ChosenInstance, no_chosen_instance, chosen_instance, first_branch, first_instance, in_par as in_the_par, in_block, choose, choose_branch, choose_instance}
+use Rattle.ceu_tree.specs.Residual.{Act, Seat, Residual, Over, Block, Branches, branch, Instances}
+use Rattle.ceu_tree.specs.Focus.{Frame, Focus, leaf, here, under, or_else, ChosenBranch, no_chosen_branch, chosen_branch, ChosenInstance, no_chosen_instance, chosen_instance, first_branch, first_instance, in_par as in_the_par, in_block, choose, choose_branch, choose_instance}
 use Rattle.ceu_tree.specs.Wake.{runs_at}
 use Rattle.ceu_tree.specs.Proper.{Scope, is_trail}
 use Rattle.ceu_tree.specs.Leaf.{code_at}
 use Rattle.ceu_tree.specs.Legal.{finalizers_of}
-use Rattle.ceu_legal.specs.Shape.{Part, ABlock, AStatement, AnEnd, block_scope, code_part, may_end, Fits, to_begin, to_turn, in_list, to_finish, at_input, at_time, at_event, at_forever, at_async, in_part, in_turn, in_call, in_par, EachFits, no_more, an_ended, a_branch, AllFit, none_lives, one_lives, FrameFits, around_statement, around_end, around_instance, around_part, around_turn, around_call, around_branch, Around, nothing_around, one_around}
+use Rattle.ceu_legal.specs.Shape.{Part, ABlock, AStatement, block_scope, code_part, Fits, to_begin, to_turn, in_list, to_finish, at_input, at_time, at_event, at_forever, at_async, in_part, in_turn, in_call, in_par, EachFits, no_more, an_ended, a_branch, AllFit, none_lives, one_lives, FrameFits, around_statement, around_instance, around_part, around_turn, around_call, around_branch, Around, nothing_around, one_around}
 
 module _ (K : Kernel) (t : ℕ) (A : Type 0) (pick : Residual → Option A) where
   -- the place of the chosen leaf, and the leaf that it was
@@ -74,7 +74,9 @@ module _ (K : Kernel) (t : ℕ) (A : Type 0) (pick : Residual → Option A) wher
   par_choice sc s k slot bs (chosen_branch before f after) e h = record {
     part = h.chosen.part;
     around = one_around (around_branch k slot h.here h.at h.there (e ∙ ap (KStmt-F.Par k slot) h.list) h.first h.last) h.chosen.around;
-    was = h.chosen.was; picked = h.chosen.picked; fits = h.chosen.fits;
+    was = h.chosen.was;
+    picked = h.chosen.picked;
+    fits = h.chosen.fits;
   }
 
   block_choice : (turn : Bool) (sc : Scope) (b : KBlock) (fin : List KNode) (r : Residual) (rest done : List KNode) (s : KNode) (c : ChosenInstance A)
@@ -83,7 +85,9 @@ module _ (K : Kernel) (t : ℕ) (A : Type 0) (pick : Residual → Option A) wher
   block_choice turn sc b fin r rest done s (chosen_instance before seat g after) e f h k = record {
     part = k.chosen.part;
     around = one_around (around_instance done k.code e f h k.first k.last k.trail k.there) k.chosen.around;
-    was = k.chosen.was; picked = k.chosen.picked; fits = k.chosen.fits;
+    was = k.chosen.was;
+    picked = k.chosen.picked;
+    fits = k.chosen.fits;
   }
 
   first_branch_choice : (sc : Scope) (k : ParKind) (b : KBlock) (bs : List KBlock) (r : Residual) (more : Branches) (o : Option (Focus A)) (c : ChosenBranch A)

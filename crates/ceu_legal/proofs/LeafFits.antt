@@ -1,9 +1,9 @@
 -- What a leaf does by itself fits its place.
-use Rattle.std.proofs.Common.{◌≡◌, refl, sym, ap, ◌∙◌, subst, ◌<◌, ◌≤◌, ℕ, zero, suc, ◌+◌, ℤ, pos, ◌+ℤ◌, ◌-ℤ◌, Bool, true, false, not, if◌then◌else◌, ◌==◌, ◌⊎◌, inl, inr, List, [], ◌∷◌, ◌++◌, Option, Some, None, Result, Ok, Err, arith}
+use Rattle.std.proofs.Common.{◌≡◌, refl, sym, ap, ◌∙◌, subst, ℕ, suc, ℤ, pos, Bool, true, false, if◌then◌else◌, ◌⊎◌, inl, inr, List, [], ◌∷◌, Option, Some, None, Result, Ok, Err, arith}
 use Rattle.std.proofs.lemmas.Bool.{false≢true}
 use Rattle.ceu_base.specs.declared.kinds.Pos.{Pos}
 use Rattle.ceu_base.specs.declared.kinds.Fault.{Fault}
-use Rattle.ceu_base.specs.Values.{same, of_test}
+use Rattle.ceu_base.specs.Values.{same}
 use Rattle.ceu_tree.specs.declared.kernel.Kernel.{Kernel}
 use Rattle.ceu_tree.specs.declared.kernel.KCode.{KCode}
 use Rattle.ceu_tree.specs.declared.kernel.KLoop.{KLoop}
@@ -12,19 +12,17 @@ use Rattle.ceu_tree.specs.declared.kernel.ParKind.{ParKind}
 use Rattle.ceu_tree.specs.declared.kernel.KNode.{KNode}
 use Rattle.ceu_tree.specs.declared.kernel.KArm.{KArm, out-KArm}
 use Rattle.ceu_tree.specs.declared.kernel.KBlock.{KBlock, out-KBlock}
-use Rattle.ceu_tree.specs.declared.kernel.KStmt.{KStmt, out-KStmt}
+use Rattle.ceu_tree.specs.declared.kernel.KStmt.{out-KStmt}
 use Rattle.ceu_tree.specs.declared.kernel.KStmt.TheOpen.{KStmt-F}
-use Rattle.ceu_tree.specs.Residual.{Body, Act, Begin, Start, Finish, AtEnd, AtHead, Again, Counter, Free, Turns, Upward, Residual, Over, Run, Branches, no_branch, branch, no_instance}
-use Rattle.ceu_tree.specs.Focus.{OfBlock, OfOpen, OfLoop, OfCall, OfPar, Focus, Here, In}
-use Rattle.ceu_tree.specs.World.{World, Cell, Names, look, set}
+use Rattle.ceu_tree.specs.Residual.{Body, Act, Begin, Start, Finish, AtEnd, AtHead, Again, no_instance}
+use Rattle.ceu_tree.specs.World.{World, Cell, Names, look}
 use Rattle.ceu_tree.specs.Expressions.{value_of, value_if, values_of, names_living}
-use Rattle.ceu_tree.specs.Leaf as does
-use Rattle.ceu_tree.specs.Leaf.{Layer, Exit, Does, Opens, Waits, Passes, Leaves, Registers, Ends, Heads, Emits, Spawns, Kills, Fails, Done, done, or_fails, code_at, chosen_part, branches_from, in_branches, loop_reached, called, spawning, killing, started, next_of, rest_of, acted}
+use Rattle.ceu_tree.specs.Leaf.{Layer, Does, Opens, Waits, Passes, Leaves, Registers, Ends, Heads, Emits, Spawns, Kills, Fails, Done, or_fails, code_at, chosen_part, branches_from, in_branches, loop_reached, called, spawning, killing, started, acted}
 use Rattle.ceu_tree.specs.Around as outcome
 use Rattle.ceu_tree.specs.Proper.{Scope, is_trail, is_proper}
-use Rattle.ceu_tree.specs.Legal.{finalizers_of, is_finalizer, may_be_over}
-use Rattle.ceu_legal.specs.Shape.{Part, ABlock, AStatement, AnEnd, block_scope, part_scope, turn_scope, code_part, opens_part, among_arms, counts, pauses, Fits, to_begin, at_input, at_time, at_event, at_forever, at_async, EachFits, no_more, a_branch, AllFit, none_lives, FrameFits, around_part, around_turn, around_call, around_branch, nothing_around, one_around, begins, heads, goes_again, starts, finishes, ends, ActFits, TurnFits, in_trail, Comes}
-use Rattle.ceu_legal.proofs.Static.{BlockOk, StmtOk, layer_fine, names_of}
+use Rattle.ceu_tree.specs.Legal.{is_finalizer}
+use Rattle.ceu_legal.specs.Shape.{Part, ABlock, AStatement, part_scope, turn_scope, code_part, opens_part, among_arms, pauses, Fits, to_begin, at_input, at_time, at_event, at_forever, at_async, EachFits, no_more, a_branch, none_lives, around_part, around_turn, around_call, around_branch, nothing_around, one_around, begins, heads, goes_again, starts, finishes, ends, ActFits, TurnFits, in_trail, Comes}
+use Rattle.ceu_legal.proofs.Static.{layer_fine, names_of}
 use Rattle.ceu_legal.proofs.UpFits.{finalizes, finalizer_layer, no_finalizer, Sound, layer_of, list_goes}
 
 pub pauses_no_finalizer : (layer : Layer) → pauses layer ≡ true → finalizes layer ≡ false

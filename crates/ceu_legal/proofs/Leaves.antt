@@ -1,18 +1,18 @@
 -- A tree fits on when its leaves become others that may stand there.
-use Rattle.std.proofs.Common.{◌≡◌, refl, sym, ap, ◌∙◌, subst, ◌≤◌, ℕ, zero, suc, ◌+◌, ◌-◌, ℤ, Bool, true, false, not, if◌then◌else◌, ◌==◌, ◌&&◌, List, [], ◌∷◌, Option, Some, None, arith}
+use Rattle.std.proofs.Common.{◌≡◌, refl, sym, ap, ◌∙◌, ◌≤◌, ℕ, suc, ◌+◌, ℤ, Bool, true, false, not, if◌then◌else◌, ◌==◌, ◌&&◌, List, Option, Some, None, arith}
 use Rattle.ceu_tree.specs.declared.kernel.Kernel.{Kernel}
 use Rattle.ceu_tree.specs.declared.kernel.ParKind.{ParKind}
 use Rattle.ceu_tree.specs.declared.kernel.ParKind.TheVariants as par
 use Rattle.ceu_tree.specs.declared.kernel.KNode.{KNode}
 use Rattle.ceu_tree.specs.declared.kernel.KBlock.{KBlock}
 use Rattle.ceu_tree.specs.declared.kernel.KStmt.{out-KStmt}
-use Rattle.ceu_tree.specs.Residual.{Residual, Over, Run, WaitInput, WaitTime, WaitEvent, WaitForever, InAsync, Block, Open, Loop, Call, Par, Branches, Instances}
-use Rattle.ceu_tree.specs.Focus.{Frame, Focus, Here, In, fill, plug, has_body}
+use Rattle.ceu_tree.specs.Residual.{Residual, WaitInput, WaitTime, WaitEvent, InAsync, Par, Branches, Instances}
+use Rattle.ceu_tree.specs.Focus.{Focus, Here, In, fill, plug, has_body}
 use Rattle.ceu_tree.specs.Wake.{each_leaf, each_in_branches, each_in_instances, each_in_body, woken, by_event, by_input, later, by_time, new_round}
-use Rattle.ceu_tree.specs.Around.{is_over, all_over}
+use Rattle.ceu_tree.specs.Around.{all_over}
 use Rattle.ceu_tree.specs.Proper.{Scope}
-use Rattle.ceu_legal.specs.Shape.{Part, ABlock, AStatement, AnEnd, pauses, still_on, Fits, to_begin, to_turn, in_list, to_finish, at_input, at_time, at_event, at_forever, at_async, in_part, in_turn, in_call, in_par, EachFits, no_more, an_ended, a_branch, AllFit, none_lives, one_lives, FrameFits, Around, nothing_around, one_around}
-use Rattle.ceu_legal.proofs.Fits.{raised, frame_raised, around_raised, not_over, fill_fits, plug_fits}
+use Rattle.ceu_legal.specs.Shape.{Part, pauses, still_on, Fits, to_begin, to_turn, in_list, to_finish, at_input, at_time, at_event, at_forever, at_async, in_part, in_turn, in_call, in_par, EachFits, no_more, an_ended, a_branch, AllFit, none_lives, one_lives, Around, nothing_around, one_around}
+use Rattle.ceu_legal.proofs.Fits.{raised, frame_raised, not_over, fill_fits, plug_fits}
 
 still_same : (k : ParKind) (rs qs : Branches) → all_over rs ≡ all_over qs → still_on k qs ≡ true → still_on k rs ≡ true
 still_same par.And rs qs e h = ap not e ∙ h

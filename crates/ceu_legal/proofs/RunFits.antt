@@ -1,10 +1,9 @@
 -- Reactions, commands and runs of a proper kernel keep configurations that fit it.
-use Rattle.std.proofs.Common.{◌≡◌, refl, sym, ap, ◌∙◌, subst, ◌<◌, ◌≤◌, ℕ, zero, suc, ◌+◌, ◌-◌, ℤ, pos, nat_le, Bool, true, false, not, if◌then◌else◌, ◌==◌, List, [], ◌∷◌, Option, Some, None, arith}
+use Rattle.std.proofs.Common.{◌≡◌, refl, ap, subst, ℕ, zero, suc, ◌+◌, ◌-◌, ℤ, nat_le, Bool, true, false, if◌then◌else◌, ◌==◌, List, [], ◌∷◌, Option, Some, None, arith}
 use Rattle.std.proofs.lemmas.Bool.{false≢true}
 use Rattle.ceu_base.specs.declared.kinds.Pos.{Pos}
 use Rattle.ceu_base.specs.declared.kinds.Fault.{Fault}
 use Rattle.ceu_base.specs.declared.kinds.Ty.TheVariants as ty
-use Rattle.ceu_base.specs.declared.kinds.Mark.TheVariants as mark
 use Rattle.ceu_tree.specs.declared.command.Command.{Command}
 use Rattle.ceu_tree.specs.declared.command.Command.TheVariants.{Input, Advance, Idle}
 use Rattle.ceu_tree.specs.declared.kernel.Kernel.{Kernel}
@@ -12,17 +11,17 @@ use Rattle.ceu_tree.specs.declared.kernel.KNode.{KNode}
 use Rattle.ceu_tree.specs.declared.kernel.KBlock.{KBlock, out-KBlock}
 use Rattle.ceu_tree.specs.declared.kernel.KStmt.{out-KStmt}
 use Rattle.ceu_tree.specs.declared.kernel.KStmt.TheOpen.{KStmt-F}
-use Rattle.ceu_tree.specs.Residual.{Body, Program, Act, Begin, Start, Finish, AtEnd, AtHead, Again, Residual, Over, Run, WaitInput, WaitTime, WaitEvent, WaitForever, InAsync, Block, Open, Loop, Call, Par}
-use Rattle.ceu_tree.specs.Focus.{Focus, Here, In, plug, leaf, body_of, choose}
-use Rattle.ceu_tree.specs.World.{World, empty_world, marked}
-use Rattle.ceu_tree.specs.Abort.{aborted}
+use Rattle.ceu_tree.specs.Residual.{Body, Program, Act, Again, Residual, Run, InAsync}
+use Rattle.ceu_tree.specs.Focus.{Focus, plug, leaf, body_of, choose}
+use Rattle.ceu_tree.specs.World.{World}
 use Rattle.ceu_tree.specs.Wake.{each_leaf, leaves, runs_at, by_input, later, by_time, least_time, Unserved, unserved, new_round}
-use Rattle.ceu_tree.specs.Around.{Outcome, Goes, Rests, Raises, Fails, Past, Registers, AtBlockEnd, AtLoopHead, Ends, Leaves}
+use Rattle.ceu_tree.specs.Around.{Outcome, Goes, Rests, Raises, Fails, Ends, Leaves}
 use Rattle.ceu_tree.specs.Step.{stepped}
-use Rattle.ceu_tree.specs.Proper.{Scope, is_trail, is_proper, body_scope, BodyAim}
-use Rattle.ceu_tree.specs.Run.{Config, Turning, Between, Waiting, Ended, Faulted, config_of, unless_failed, level_closed, chosen_at, next, steps, booted, reacts, input, advance, is_again, Served, Unfinished, Turned, Done, Failed, serve, serve_first, after_serving, served, idle_turn, idle_turns, done, all_done, run}
-use Rattle.ceu_legal.specs.Shape.{Part, ABlock, AStatement, AnEnd, program_part, async_scope, pauses, Fits, to_begin, to_turn, in_list, to_finish, at_input, at_time, at_event, at_forever, at_async, in_part, in_turn, in_call, in_par, Around, nothing_around, one_around, begins, heads, goes_again, starts, finishes, ends, ActFits, TurnFits, in_trail, aimed, Comes, ConfigFits}
-use Rattle.ceu_legal.proofs.Static.{names_of, program_static, layer_fine}
+use Rattle.ceu_tree.specs.Proper.{Scope, is_trail, is_proper, BodyAim}
+use Rattle.ceu_tree.specs.Run.{Config, Turning, Between, Waiting, Ended, Faulted, config_of, unless_failed, chosen_at, next, steps, booted, reacts, input, advance, is_again, Served, Unfinished, Turned, Done, Failed, serve, serve_first, after_serving, served, idle_turn, idle_turns, done, all_done, run}
+use Rattle.ceu_legal.specs.Shape.{Part, ABlock, AStatement, program_part, async_scope, pauses, Fits, to_begin, to_turn, to_finish, at_async, Around, begins, goes_again, finishes, ActFits, TurnFits, in_trail, Comes, ConfigFits}
+use Rattle.ceu_legal.specs.Laws.{is_whole}
+use Rattle.ceu_legal.proofs.Static.{program_static}
 use Rattle.ceu_legal.proofs.Fits.{raised, around_raised, plug_fits}
 use Rattle.ceu_legal.proofs.Leaves.{leaves_fit, by_input_fits, by_time_fits, later_fits, round_fits}
 use Rattle.ceu_legal.proofs.Choice.{ChosenFits, ChoiceFits, choice_fits, lowered}
@@ -85,6 +84,18 @@ module _ (K : Kernel) (proper : is_proper K ≡ true) where
   next_fits (Waiting r w) h = h
   next_fits (Ended v w) h = h
   next_fits (Faulted e w) h = h
+
+  comes_whole : (n : ℕ) (x : Outcome) → Comes K n (program_part K) x → is_whole x ≡ true
+  comes_whole n (Goes g) h = refl
+  comes_whole n (Rests r) h = refl
+  comes_whole n (Raises r) h = refl
+  comes_whole n (Fails e r) h = refl
+  comes_whole n (Ends v) h = refl
+  comes_whole n (Leaves node x) h = absurd (root_closed node h.0 h.1)
+  comes_whole n x h = elim h [ ]
+
+  pub step_whole : (n : ℕ) (f : Focus Act) (w : World) → TurnFits K (suc n) (program_part K) f → is_whole (stepped K n Program f w).outcome ≡ true
+  step_whole n f w h = comes_whole n (stepped K n Program f w).outcome (stepped_fits K proper n Program f w (program_part K) root_closed root_sound h)
 
   pub steps_fit : (k : ℕ) (c : Config) → ConfigFits K c → ConfigFits K (steps K k c)
   unfolding steps

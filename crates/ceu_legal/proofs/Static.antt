@@ -1,25 +1,21 @@
 -- What it says of one level of a kernel that it is proper.
-use Rattle.std.proofs.Common.{◌≡◌, refl, sym, ap, ◌∙◌, subst, ℕ, zero, suc, ◌+◌, ℤ, Bool, true, false, not, if◌then◌else◌, ◌==◌, ◌&&◌, ◌||◌, ◌⊎◌, inl, inr, List, [], ◌∷◌, ◌++◌, Option, Some, None, arith, eqb-true, eq-eqb}
+use Rattle.std.proofs.Common.{◌≡◌, refl, sym, ap, ◌∙◌, subst, ℕ, zero, suc, ◌+◌, Bool, true, false, if◌then◌else◌, ◌==◌, ◌&&◌, ◌||◌, List, [], ◌∷◌, Option, Some, None, arith, eqb-true, eq-eqb}
 use Rattle.std.proofs.lemmas.Bool.{and_parts, false≢true}
 use Rattle.std.specs.List.{list_any}
-use Rattle.ceu_base.specs.declared.kinds.Ty.{Ty}
 use Rattle.ceu_base.specs.declared.kinds.Ty.TheVariants as ty
-use Rattle.ceu_tree.specs.Numbering.{row_length, is_numbered}
+use Rattle.ceu_tree.specs.Numbering.{row_length}
 use Rattle.ceu_tree.specs.Mentions.{outer_names_from}
 use Rattle.ceu_tree.specs.declared.kernel.Kernel.{Kernel}
 use Rattle.ceu_tree.specs.declared.kernel.KCode.{KCode}
 use Rattle.ceu_tree.specs.declared.kernel.KExp.{KExp}
-use Rattle.ceu_tree.specs.declared.kernel.KLoop.{KLoop}
-use Rattle.ceu_tree.specs.declared.kernel.ParKind.{ParKind}
 use Rattle.ceu_tree.specs.declared.kernel.KNode.{KNode}
 use Rattle.ceu_tree.specs.declared.kernel.KArm.{KArm, KArm', out-KArm}
 use Rattle.ceu_tree.specs.declared.kernel.KBlock.{KBlock, KBlock', out-KBlock, Row_of-KNode, end_of-KNode, more_of-KNode, items-the_row-KNode, items_shown-the_row-KNode-2}
-use Rattle.ceu_tree.specs.declared.kernel.KStmt.{KStmt, out-KStmt, Row_of-KArm, end_of-KArm, more_of-KArm, items-the_row-KArm, items_shown-the_row-KArm-0, items_shown-the_row-KBlock-1, Row_of-KBlock, end_of-KBlock, more_of-KBlock, items-the_row-KBlock, Nothing, Assign, Out, Emit, AwaitIn, AwaitTime, AwaitEvent, Forever, AwaitCode, Spawn, Kill, Unset, Async, Finalize, Do, Escape, Break, Continue, If', Loop, Par'}
-use Rattle.ceu_tree.specs.declared.kernel.KStmt.TheBlock.{shown-the_row-KArm-0, shown-the_row-KBlock-1}
+use Rattle.ceu_tree.specs.declared.kernel.KStmt.{KStmt, out-KStmt, Row_of-KArm, end_of-KArm, more_of-KArm, items-the_row-KArm, items_shown-the_row-KArm-0, items_shown-the_row-KBlock-1, Row_of-KBlock, end_of-KBlock, more_of-KBlock, items-the_row-KBlock, Emit, AwaitIn, AwaitTime, AwaitEvent, Forever, AwaitCode, Spawn, Async, Do, Escape, Break, Continue, If', Loop, Par'}
 use Rattle.ceu_tree.specs.declared.kernel.KStmt.TheOpen.{KStmt-F}
 use Rattle.ceu_tree.specs.Leaf.{Layer, code_at}
-use Rattle.ceu_tree.specs.Proper.{Scope, Aim, DoAim, BodyAim, LoopAim, with_decls, with_aim, with_turns, do_aim, in_async, in_finalizer, body_scope, gives_if, gives_all, takes_if, time_ok, on_code, is_above, par_ok, alias_takes, find, is_parameter, is_trail, outside_finalizers, stmt_ok, block_ok, arm_ok, nodes_ok, arms_ok, blocks_ok, codes_ok, is_proper, escape_ok, is_loop_aim}
-use Rattle.ceu_legal.specs.Shape.{Part, ABlock, AStatement, AnEnd, block_scope, part_scope, turn_scope, async_scope, code_scope, code_part, program_part, aim_node, aimed}
+use Rattle.ceu_tree.specs.Proper.{Scope, Aim, DoAim, BodyAim, LoopAim, with_decls, with_aim, with_turns, do_aim, in_async, body_scope, gives_if, gives_all, takes_if, time_ok, on_code, is_above, par_ok, alias_takes, find, is_trail, outside_finalizers, stmt_ok, block_ok, arm_ok, nodes_ok, arms_ok, blocks_ok, codes_ok, is_proper, escape_ok, is_loop_aim}
+use Rattle.ceu_legal.specs.Shape.{block_scope, part_scope, turn_scope, async_scope, code_scope, aim_node, aimed}
 use denote.Hole.Carrier
 
 last_holds : (x y : Bool) → (x && y) ≡ true → y ≡ true

@@ -1,24 +1,23 @@
 -- One step of a trail fits the place of the whole, with emissions, spawns and kills.
-use Rattle.std.proofs.Common.{◌≡◌, refl, sym, ap, ◌∙◌, subst, ◌<◌, ◌≤◌, ℕ, zero, suc, ◌+◌, ℤ, pos, nat_lt, Bool, true, false, not, if◌then◌else◌, ◌==◌, List, [], ◌∷◌, Option, Some, None, arith}
-use Rattle.std.proofs.lemmas.Bool.{false≢true}
+use Rattle.std.proofs.Common.{◌≡◌, refl, sym, subst, ◌<◌, ℕ, suc, ◌+◌, ℤ, pos, nat_lt, Bool, true, false, if◌then◌else◌, ◌==◌, List, ◌∷◌, Option, Some, None, arith}
 use Rattle.ceu_base.specs.declared.kinds.Fault.TheVariants.{SpawnCount}
 use Rattle.ceu_base.specs.declared.kinds.Mark.TheVariants as mark
 use Rattle.ceu_tree.specs.declared.kernel.Kernel.{Kernel}
 use Rattle.ceu_tree.specs.declared.kernel.KCode.{KCode}
 use Rattle.ceu_tree.specs.declared.kernel.KNode.{KNode}
-use Rattle.ceu_tree.specs.declared.kernel.KBlock.{KBlock, out-KBlock}
+use Rattle.ceu_tree.specs.declared.kernel.KBlock.{out-KBlock}
 use Rattle.ceu_tree.specs.declared.kernel.KStmt.{out-KStmt}
-use Rattle.ceu_tree.specs.Residual.{Body, Spawned as InstanceBody, Act, Begin, Finish, Seat, Residual, Over, Run, Instances, no_instance, instance}
-use Rattle.ceu_tree.specs.Focus.{Frame, OfBlock, OfInstance, OfOpen, OfLoop, OfCall, OfPar, Focus, Here, In, plug, graft, leaf, body_of}
+use Rattle.ceu_tree.specs.Residual.{Body, Spawned as InstanceBody, Act, Begin, Finish, Seat, Residual, Over, Run, Instances, instance}
+use Rattle.ceu_tree.specs.Focus.{Frame, Focus, Here, In, plug, graft, leaf, body_of}
 use Rattle.ceu_tree.specs.World.{World, NotSet, Names, marked, set_alias, set_parameters}
-use Rattle.ceu_tree.specs.Wake.{by_event, woken}
+use Rattle.ceu_tree.specs.Wake.{by_event}
 use Rattle.ceu_tree.specs.Leaf as does
 use Rattle.ceu_tree.specs.Leaf.{Does, acted, code_at}
 use Rattle.ceu_tree.specs.Around.{Outcome, Goes, Rests, Raises, Fails, Past, Registers, AtBlockEnd, AtLoopHead, Ends, Leaves, Moved, moved, up, taken, answered}
 use Rattle.ceu_tree.specs.Step.{event_code, emitted, size_in, free_place, with_instance, seated_if, seat_frame, seated, spawned_at, spawned, unseated, unseat_frame, unseat, killed, does_in, stepped}
 use Rattle.ceu_tree.specs.Proper.{Scope, is_trail, is_proper}
-use Rattle.ceu_legal.specs.Shape.{Part, ABlock, AStatement, AnEnd, code_part, pauses, Fits, to_begin, to_finish, AllFit, none_lives, one_lives, FrameFits, around_statement, around_end, around_instance, around_part, around_turn, around_call, around_branch, Around, nothing_around, one_around, ActFits, TurnFits, in_trail, aimed, Comes}
-use Rattle.ceu_legal.proofs.Fits.{raised, all_raised, frame_raised, around_raised, plug_fits, graft_around}
+use Rattle.ceu_legal.specs.Shape.{Part, ABlock, code_part, Fits, to_begin, to_finish, AllFit, none_lives, one_lives, FrameFits, around_statement, around_end, around_instance, around_part, around_turn, around_call, around_branch, Around, nothing_around, one_around, ActFits, TurnFits, in_trail, aimed, Comes}
+use Rattle.ceu_legal.proofs.Fits.{around_raised, plug_fits, graft_around}
 use Rattle.ceu_legal.proofs.Leaves.{woken_fits, by_event_fits}
 use Rattle.ceu_legal.proofs.UpFits.{no_finalizer, Sound, frame_sound, frame_trail, up_fits}
 use Rattle.ceu_legal.proofs.LeafFits.{pauses_no_finalizer, Pausing, DoesFit, acted_fits}
@@ -145,9 +144,10 @@ module _ (K : Kernel) (proper : is_proper K ≡ true) where
                 moved (Raises (plug (seated seat (Run (n + 1) (Begin c.body)) f) (Run n (Finish s (pos 0))))) (marked (mark.Push (n + 1)) (marked (mark.Spawned (w.given + 1)) u)))
             inner true = tt
             inner false =
-                let b = around_raised K {t = suc n} {u = suc (suc n)} (omega arith) a in
-                (around_trail a h (pausing_trail p),
-                plug_fits K (seated_around (suc (suc n)) seat (Run (n + 1) (Begin c.body)) c q (to_begin (omega arith)) b h (pausing_trail p)) (paused (suc (suc n)) (omega arith) p))
+                let b = around_raised K {t = suc n} {u = suc (suc n)} (omega arith) a in (
+                  around_trail a h (pausing_trail p),
+                  plug_fits K (seated_around (suc (suc n)) seat (Run (n + 1) (Begin c.body)) c q (to_begin (omega arith)) b h (pausing_trail p)) (paused (suc (suc n)) (omega arith) p),
+                )
 
     does_fits : (root body : Body) (f : Focus Act) (x : Does) (w : World) (d e : Part) → Closed d → Sound K proper d → Around K (suc n) Act f d e → DoesFit K proper n e x → Comes K n d (does_in K n root body f x w).outcome
     does_fits root body f (does.Opens x) w d e c h a y = record { part = y.part; around = graft_around K a y.around; acts = subst (ActFits y.part) (sym (graft_leaf f x)) y.acts }

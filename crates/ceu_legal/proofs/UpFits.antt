@@ -1,31 +1,28 @@
 -- What the parts around a leaf do with what it comes to fits their places.
-use Rattle.std.proofs.Common.{◌≡◌, refl, sym, ap, ◌∙◌, subst, ◌<◌, ◌≤◌, ℕ, zero, suc, ◌+◌, ℤ, pos, ◌+ℤ◌, int_lt, Bool, true, false, not, if◌then◌else◌, ◌==◌, ◌&&◌, ◌||◌, ◌⊎◌, inl, inr, List, [], ◌∷◌, ◌++◌, append_assoc, append-nil, Option, Some, None, arith}
+use Rattle.std.proofs.Common.{◌≡◌, refl, sym, ap, ◌∙◌, subst, ℕ, suc, ◌+◌, pos, ◌+ℤ◌, int_lt, Bool, true, false, not, if◌then◌else◌, ◌==◌, ◌||◌, inl, inr, List, [], ◌∷◌, ◌++◌, append_assoc, append-nil, Some, None, arith}
 use Rattle.std.proofs.lemmas.Bool.{false≢true}
-use Rattle.ceu_base.specs.declared.kinds.Fault.TheVariants.{LoopLimit}
 use Rattle.ceu_tree.specs.declared.kernel.Kernel.{Kernel}
-use Rattle.ceu_tree.specs.declared.kernel.KCode.{KCode}
 use Rattle.ceu_tree.specs.declared.kernel.KLoop.{KLoop}
 use Rattle.ceu_tree.specs.declared.kernel.KLoop.TheVariants as turns
-use Rattle.ceu_tree.specs.declared.kernel.Loc.{Loc}
 use Rattle.ceu_tree.specs.declared.kernel.ParKind.{ParKind}
 use Rattle.ceu_tree.specs.declared.kernel.ParKind.TheVariants as par
 use Rattle.ceu_tree.specs.declared.kernel.KNode.{KNode}
-use Rattle.ceu_tree.specs.declared.kernel.KArm.{KArm, out-KArm}
+use Rattle.ceu_tree.specs.declared.kernel.KArm.{KArm}
 use Rattle.ceu_tree.specs.declared.kernel.KBlock.{KBlock, out-KBlock}
 use Rattle.ceu_tree.specs.declared.kernel.KStmt as kernel
 use Rattle.ceu_tree.specs.declared.kernel.KStmt.{KStmt, out-KStmt}
 use Rattle.ceu_tree.specs.declared.kernel.KStmt.TheOpen.{KStmt-F}
-use Rattle.ceu_tree.specs.Residual.{Body, Act, Begin, Start, Finish, AtEnd, AtHead, Again, Counter, Free, Turns, Upward, Seat, Residual, Over, Block, Loop, Par, Branches, no_branch, branch, Instances}
-use Rattle.ceu_tree.specs.Focus.{Frame, OfBlock, OfInstance, OfOpen, OfLoop, OfCall, OfPar, Focus, Here, In, join, join_instances, fill, plug, body_in}
+use Rattle.ceu_tree.specs.Residual.{Body, Act, Begin, Again, Counter, Free, Turns, Upward, Over, Par, Branches, branch, Instances}
+use Rattle.ceu_tree.specs.Focus.{Frame, OfBlock, OfInstance, OfOpen, OfLoop, OfCall, OfPar, Focus, Here, In, join, body_in}
 use Rattle.ceu_tree.specs.World.{World}
-use Rattle.ceu_tree.specs.Leaf.{Layer, Exit, Escape, Break, Continue, next_of, rest_of, code_at}
-use Rattle.ceu_tree.specs.Around.{Outcome, Goes, Rests, Raises, Fails, Past, Registers, AtBlockEnd, AtLoopHead, Ends, Leaves, Moved, moved, body_left, open_left, again, begins_turn, turn_of, next_turn, loop_exit, loop_left, all_over, kind_of, rejoined, through, up, taken, answered}
-use Rattle.ceu_tree.specs.Proper.{Scope, Aim, DoAim, BodyAim, LoopAim, is_trail, is_proper, do_aim, with_turns}
+use Rattle.ceu_tree.specs.Leaf.{Layer, Exit, Escape, Break, Continue, next_of, rest_of}
+use Rattle.ceu_tree.specs.Around.{Outcome, Goes, Rests, Raises, Fails, Past, Registers, AtBlockEnd, AtLoopHead, Ends, Leaves, Moved, moved, body_left, open_left, turn_of, next_turn, loop_left, all_over, kind_of, rejoined, through, up}
+use Rattle.ceu_tree.specs.Proper.{Scope, Aim, DoAim, BodyAim, LoopAim, is_trail, is_proper}
 use Rattle.ceu_tree.specs.Legal.{finalizers_of, is_finalizer}
-use Rattle.ceu_legal.specs.Shape.{Part, ABlock, AStatement, AnEnd, block_scope, part_scope, turn_scope, code_scope, code_part, opens_part, among_arms, counts, may_end, still_on, pauses, Fits, in_list, in_par, EachFits, an_ended, AllFit, FrameFits, around_statement, around_end, around_instance, around_part, around_turn, around_call, around_branch, Around, nothing_around, one_around, ActFits, begins, heads, goes_again, starts, finishes, ends, TurnFits, in_trail, aim_node, aimed, Comes}
+use Rattle.ceu_legal.specs.Shape.{Part, ABlock, AStatement, AnEnd, block_scope, part_scope, turn_scope, opens_part, among_arms, counts, may_end, in_list, in_par, EachFits, an_ended, AllFit, FrameFits, around_statement, around_end, around_instance, around_part, around_turn, around_call, around_branch, Around, nothing_around, one_around, begins, goes_again, starts, ends, TurnFits, in_trail, aim_node, aimed, Comes}
 use Rattle.ceu_legal.proofs.Static.{BlockOk, StmtOk, nodes_fine, each_fine, arms_fine, layer_fine, block_static, stmt_static, names_of, code_static}
 use denote.Hole.Carrier
-use Rattle.ceu_legal.proofs.Fits.{raised, frame_raised, each_joined, all_joined, fill_fits}
+use Rattle.ceu_legal.proofs.Fits.{frame_raised, each_joined, all_joined, fill_fits}
 
 -- ---- statements that are finalizers
 
