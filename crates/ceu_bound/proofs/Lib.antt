@@ -1,2 +1,4 @@
 pub mod CellLaws
 pub mod WeightSums
+pub mod CostLaws
+pub mod MeasureLaws

@@ -2,6 +2,8 @@
 #![tactic(auto)]
 
 mod cells;
+mod measures;
+mod tables;
 mod weights;
 
 pub use cells::depth;

@@ -1,0 +1,19 @@
+// What the codes and events of a program cost, by number, in one part.
+
+/// A part of a cost: turns of trails, or levels that are opened.
+#[derive(Clone, Copy, PartialEq, Eq)]
+pub enum Part {
+    Turns,
+    Levels,
+}
+
+/// Which codes an await may pass at once, what an emission of each event costs, and what each code costs from its start and where it
+/// stood waiting, each cut at 4,294,967,295.
+#[derive(Drop)]
+pub struct Tables {
+    pub part: Part,
+    pub passing: Vec<bool>,
+    pub events: Vec<u32>,
+    pub entering: Vec<u32>,
+    pub staying: Vec<u32>,
+}
