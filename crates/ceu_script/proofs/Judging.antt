@@ -3,6 +3,7 @@ use Rattle.std.proofs.Common.{◌≡◌, ℕ, zero, suc, List, [], ◌∷◌, �
 use Rattle.ceu_base.specs.declared.kinds.Port.{Port}
 use Rattle.ceu_tree.specs.declared.command.Command.{Command}
 use Rattle.ceu_script.specs.Lines.{Line, skipped, content, bad, until_bad, judged, of_command, script_lines, script, Comes, Spoils, Ends}
+use Rattle.ceu_script.specs.Places.{Skips}
 use Rattle.ceu_script.specs.Reader.{Script}
 use Rattle.ceu_script.specs.Shapes.{command_of}
 use Rattle.ceu_script.specs.declared.items.BadKind.{BadKind}
@@ -49,3 +50,12 @@ module _ (inputs : List Port) (s t : Script) (before after : ℕ) where
     counted = line.counted;
     lines_are = ap (λ (l : List (Line (List ℕ))). until_bad (map (judged inputs) l)) line.lines_are ∙ judge_all line.skips;
   }
+
+pub script_skips : (inputs : List Port) (s : Script) (before after : ℕ) → Skips before after (script_lines s) → Skips before after (script inputs s)
+unfolding script
+script_skips inputs s before after line = record {
+  skips = line.skips;
+  rest = until_bad (map (judged inputs) line.rest);
+  counted = line.counted;
+  lines_are = ap (λ (l : List (Line (List ℕ))). until_bad (map (judged inputs) l)) line.lines_are ∙ judge_skips inputs line.skips line.rest;
+}

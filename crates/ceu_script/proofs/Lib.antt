@@ -6,3 +6,4 @@ pub mod Listing
 pub mod Skipping
 pub mod Judging
 pub mod Allowed
+pub mod Placing

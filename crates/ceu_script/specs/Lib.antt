@@ -4,3 +4,4 @@ pub mod Reader
 pub mod Lines
 pub mod Bytewise
 pub mod Commands
+pub mod Places

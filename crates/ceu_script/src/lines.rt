@@ -1,6 +1,7 @@
 // The pieces, bytes and ends that a line is read by.
 ghost use Rattle.std.specs.Prelude.{◌≡◌, ◌+◌, ℕ, List};
 ghost use Rattle.ceu_script.specs.Bytewise.{IsLine, of_length, lines_after};
+ghost use Rattle.ceu_script.specs.Places.{start_after};
 ghost use Rattle.ceu_script.specs.Lines.{without_return};
 
 use arrayvec::ArrayVec;
@@ -39,6 +40,7 @@ pub enum NextByte {
 pub fn of_text(text: ArrayVec<u8, 201>) -> RawLine
     ensures line { (rest : List ℕ) → IsLine result (of_length text.items rest) rest }
     ensures counted { (lines : ℕ) → lines_after (Ok result) lines ≡ lines + 1 }
+    ensures began { (place before : ℕ) → start_after (Ok result) place before ≡ place }
 {
     if text.len() > LONGEST {
         RawLine::Long
@@ -51,6 +53,7 @@ pub fn of_text(text: ArrayVec<u8, 201>) -> RawLine
 pub fn before_newline(mut text: ArrayVec<u8, 201>) -> RawLine
     ensures line { (rest : List ℕ) → IsLine result (of_length (without_return text.items) rest) rest }
     ensures counted { (lines : ℕ) → lines_after (Ok result) lines ≡ lines + 1 }
+    ensures began { (place before : ℕ) → start_after (Ok result) place before ≡ place }
 {
     let len = text.len();
     if len > 0 && text.as_slice()[len - 1] == b'\r' {

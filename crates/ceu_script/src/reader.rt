@@ -46,6 +46,7 @@ impl ScriptReader {
     ghost use Rattle.ceu_script.specs.Commands.{IfCommand};
     ghost use Rattle.ceu_script.specs.Content.{content_of};
     ghost use Rattle.ceu_script.specs.Lines.{script_lines, script, GivesLine, Gives, GoesOnAfter, GoesOnBehind};
+    ghost use Rattle.ceu_script.specs.Places.{IsAt, Places, PlacesLine, Skips, start_after};
     ghost use Rattle.ceu_script.specs.Reader.{ahead, position, budget, GoesOn};
 
     pub fn new() -> ScriptReader
@@ -98,6 +99,9 @@ impl ScriptReader {
         requires inputs { length inputs.now ≤ 65535 }
         ensures told { IfOk result (λ item. WhereTold (I.left src.old) (I.left src.new) (λ old new. Gives item self.old self.new (script inputs.now (ahead self.old old)) (script inputs.now (ahead self.new new)))) }
         ensures command { IfOk result (λ item. IfCommand inputs.now item) }
+        // Where it fails, some lines may have been skipped.
+        ensures skipped { OnErr result (WhereTold (I.left src.old) (I.left src.new) (λ old new. Skips self.old.last.lines self.new.last.lines (script inputs.now (ahead self.old old)))) }
+        ensures places { WhereTold (I.left src.old) (I.left src.new) (λ old new. (bytes : List ℕ) → IsAt bytes self.old (ahead self.old old) → Places result bytes self.new (ahead self.new new)) }
         ensures goes_on { IfOk result (λ item. GoesOnBehind item self.old self.new) }
         // At most 4,096 bytes are taken from the start of the last line that was skipped or answered.
         ensures taken { self.new.taken ≤ self.new.last.start + 4096 }
@@ -119,6 +123,9 @@ impl ScriptReader {
         requires goes_on { GoesOn self.old }
         ensures told { IfOk result (λ item. WhereTold (I.left src.old) (I.left src.new) (λ old new. GivesLine item self.old self.new (script_lines (ahead self.old old)) (script_lines (ahead self.new new)))) }
         ensures goes_on { IfOk result (λ item. GoesOnAfter item self.old self.new) }
+        // Where it fails, some lines may have been skipped.
+        ensures skipped { OnErr result (WhereTold (I.left src.old) (I.left src.new) (λ old new. Skips self.old.last.lines self.new.last.lines (script_lines (ahead self.old old)))) }
+        ensures places { WhereTold (I.left src.old) (I.left src.new) (λ old new. (bytes : List ℕ) → IsAt bytes self.old (ahead self.old old) → PlacesLine result bytes self.new (ahead self.new new)) }
         // At most 4,096 bytes are taken from the start of the last line that was skipped or answered.
         ensures taken { self.new.taken ≤ self.new.last.start + 4096 }
         ensures moved { WhereTold (I.left src.old) (I.left src.new) (λ old new. self.new.taken + length new ≡ self.old.taken + length old) }
@@ -146,6 +153,7 @@ impl ScriptReader {
         ensures start { self.new.last.start ≡ self.old.last.start }
         ensures lines { self.new.last.lines ≡ self.old.last.lines }
         ensures text { self.new.last.text ≡ content_of text.items }
+        ensures held { length self.new.pending ≤ self.new.taken }
     {
         self.text = text;
     }
@@ -155,6 +163,8 @@ impl ScriptReader {
         requires { GoesOn self.old }
         ensures told { IfOk result (λ line. WhereTold (I.left src.old) (I.left src.new) (λ old new. Answers line (ahead self.old old) (ahead self.new new))) }
         ensures lines { self.new.last.lines ≡ lines_after result self.old.last.lines }
+        ensures start { self.new.last.start ≡ start_after result (position self.old) self.old.last.start }
+        ensures held { length self.old.pending ≤ self.old.taken }
         ensures passes { IfOk result (λ line. Passes line self.old self.new) }
         ensures taken { (self.new.taken ≤ self.new.last.start + 4096) × (self.new.taken ≤ budget) }
         ensures moved { WhereTold (I.left src.old) (I.left src.new) (λ old new. self.new.taken + length new ≡ self.old.taken + length old) }
@@ -230,6 +240,7 @@ impl ScriptReader {
     // The next byte's place in the script.
     fn position(&self) -> u64
         ensures place { result ≡ position self.now }
+        ensures held { length self.now.pending ≤ self.now.taken }
         ensures taken { (self.now.taken ≤ result + 1024) × (self.now.taken ≤ budget) }
     {
         self.taken - (self.end - self.at) as u64

@@ -43,9 +43,9 @@ impl<'a, O: Sink> TextMarks<'a, O> {
 impl<'a, O: Sink> MarkSink for TextMarks<'a, O> {
     ghost faults = { λ s. O.faults s.out.now };
 
-    ghost notes = { λ old m new. Appends (printed old.all old.outputs.now m) (O.held old.out.now) (O.held new.out.now) × (new.outputs.now ≡ old.outputs.now) × (new.all ≡ old.all) };
+    ghost notes = { λ old m new. Appends (printed old.all old.outputs.now m) (O.held old.out.now) (O.held new.out.now) × (new.outputs.now ≡ old.outputs.now) × (new.all ≡ old.all) × (new.out.ghost_name ≡ old.out.ghost_name) };
 
-    ghost stops = { λ old m new. AppendsProperFront (printed old.all old.outputs.now m) (O.held old.out.now) (O.held new.out.now) × (new.outputs.now ≡ old.outputs.now) × (new.all ≡ old.all) };
+    ghost stops = { λ old m new. AppendsProperFront (printed old.all old.outputs.now m) (O.held old.out.now) (O.held new.out.now) × (new.outputs.now ≡ old.outputs.now) × (new.all ≡ old.all) × (new.out.ghost_name ≡ old.out.ghost_name) };
 
     fn mark(&mut self, m: Mark) -> Result<(), Failed> {
         let line = printed(self.all, self.outputs.items(), m);

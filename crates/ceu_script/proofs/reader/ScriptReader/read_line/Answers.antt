@@ -15,3 +15,9 @@ returns-in-Newline-clause-lines g c = c.begin.ensures.lines ∙ ap (λ (l : Last
 
 pub returns-else-is_empty-clause-lines : goal.returns-else-is_empty-clause-lines
 returns-else-is_empty-clause-lines g c = c.begin-in-Last.ensures.lines ∙ ap (λ (l : LastLine). l.lines + 1) c.read_text.ensures.last ∙ sym (c.of_text.ensures.counted _)
+
+pub returns-in-Newline-clause-start : goal.returns-in-Newline-clause-start
+returns-in-Newline-clause-start g c = c.begin.ensures.start ∙ c.position-start.ensures.place ∙ sym (c.before_newline.ensures.began _ _)
+
+pub returns-else-is_empty-clause-start : goal.returns-else-is_empty-clause-start
+returns-else-is_empty-clause-start g c = c.begin-in-Last.ensures.start ∙ c.position-start.ensures.place ∙ sym (c.of_text.ensures.began _ _)
