@@ -1,5 +1,5 @@
 -- Definitions on expressions, by the forms that the code meets.
-use Rattle.std.proofs.Common.{◌≡◌, refl, ap, ℕ, Bool, Option, Some, None}
+use Rattle.std.proofs.Common.{◌≡◌, refl, ap, ℕ, Bool, Some, None}
 use Rattle.std.specs.Prelude.{pos, neg_ℤ}
 use Rattle.ceu_base.specs.declared.kinds.Ty.{Ty}
 use Rattle.ceu_base.specs.declared.kinds.Op1.{Op1}

@@ -24,7 +24,7 @@ use Rattle.ceu_tree.specs.declared.kernel.KKind.TheVariants as kind
 use Rattle.ceu_tree.specs.declared.kernel.KLoop.TheVariants as turns
 use Rattle.ceu_tree.specs.declared.kernel.ParKind.{ParKind}
 use Rattle.ceu_tree.specs.declared.kernel.ParKind.TheVariants as par
-use Rattle.ceu_tree.specs.declared.kernel.KArm.{KArm, roll-KArm}
+use Rattle.ceu_tree.specs.declared.kernel.KArm.{roll-KArm}
 use Rattle.ceu_tree.specs.declared.kernel.KStmt as kernel
 use Rattle.ceu_scopes.specs.declared.known.Scopes.{Scopes}
 use Rattle.ceu_types.specs.declared.typing.Types.{Types}
@@ -34,7 +34,7 @@ use Rattle.ceu_expand.specs.Draft.{in_loop, in_do, outside, opened, written, clo
 use Rattle.ceu_expand.specs.Lists.{each, gathered}
 use Rattle.ceu_expand.specs.Uses.{variable, used, if_variable, if_used}
 use Rattle.ceu_expand.specs.Expressions.{exp_passed, exp_written}
-use Rattle.ceu_expand.specs.Parts.{simple, zeroed, nothing_in, assigned, emitted, escaped, target_awaited, awaited, spawned, alias_declared, pool_declared, killed, name_passed}
+use Rattle.ceu_expand.specs.Parts.{simple, assigned, emitted, escaped, target_awaited, awaited, spawned, alias_declared, pool_declared, killed, name_passed}
 use Rattle.ceu_expand.specs.Expansion.{declared_by, declared_in, declared_all, row_items, row_blocks, par_hidden, par_slot, turns_written, turns_passed, range_written, range_passed, stmt_written, code_begun, code_around, code_ended, source_written, value_written, do_written, ranged, every_written, every_passed, block_written, block_passed, arm_written, arm_passed, last_written, last_passed, nodes_written, items_written, arms_written, arms_passed, blocks_written, blocks_passed, node_step, if_source_written, item_step, if_block_written, if_block_passed}
 use denote.Hole.Carrier
 

@@ -8,7 +8,6 @@ use Rattle.ceu_tree.specs.declared.source.Label.{Label}
 use Rattle.ceu_tree.specs.declared.source.Label.TheVariants as label
 use Rattle.ceu_tree.specs.declared.kernel.Loc.{Loc}
 use Rattle.ceu_tree.specs.declared.kernel.KKind.{KKind}
-use Rattle.ceu_tree.specs.declared.kernel.KDecl.{KDecl}
 use Rattle.ceu_tree.specs.declared.kernel.KCode.{KCode}
 use Rattle.ceu_tree.specs.declared.kernel.KStmt.{KStmt}
 use Rattle.ceu_tree.specs.declared.kernel.KBlock.{KBlock, roll-KBlock}

@@ -1,7 +1,6 @@
 -- What the statements without blocks of their own stand for. Each takes the draft before it to the draft behind it; what stands in place of one
 -- statement of the text has that statement's position, but a spawn that of its word `spawn`.
-use Rattle.std.specs.Prelude.{ℕ, ◌+◌, pos, Bool, if◌then◌else◌, List, [], ◌∷◌, Option, Some, None}
-use Rattle.ceu_base.specs.declared.kinds.Ty.{Ty}
+use Rattle.std.specs.Prelude.{ℕ, pos, Bool, if◌then◌else◌, [], ◌∷◌, Option, Some, None}
 use Rattle.ceu_base.specs.declared.kinds.Ty.TheVariants as ty
 use Rattle.ceu_base.specs.declared.kinds.Pos.{Pos}
 use Rattle.ceu_tree.specs.declared.source.Ident.{Ident}
@@ -20,7 +19,6 @@ use Rattle.ceu_tree.specs.declared.kernel.Unit.TheVariants.{Us}
 use Rattle.ceu_tree.specs.declared.kernel.KArm.{KArm'}
 use Rattle.ceu_tree.specs.declared.kernel.KStmt.{KStmt}
 use Rattle.ceu_tree.specs.declared.kernel.KStmt as kernel
-use Rattle.ceu_tree.specs.declared.kernel.KBlock.{KBlock}
 use Rattle.ceu_scopes.specs.declared.known.Scopes.{Scopes}
 use Rattle.ceu_types.specs.declared.typing.Types.{Types}
 use Rattle.ceu_expand.specs.declared.around.Around.{Around}
