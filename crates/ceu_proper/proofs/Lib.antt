@@ -9,3 +9,5 @@ pub mod Wrote
 pub mod Whole
 pub mod Steps
 pub mod Depths
+pub mod Good
+pub mod Shaping
