@@ -1,0 +1,5 @@
+pub mod Labels
+pub mod Lists
+pub mod ExpForms
+pub mod Sizes
+pub mod Forms

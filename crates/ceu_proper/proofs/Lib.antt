@@ -1,0 +1,13 @@
+pub mod Codes
+pub mod Runs
+pub mod Frames
+pub mod Shapes
+pub mod Inside
+pub mod Parts
+pub mod Counts
+pub mod Wrote
+pub mod Whole
+pub mod Steps
+pub mod Depths
+pub mod Good
+pub mod Shaping

@@ -1,0 +1,17 @@
+-- Laws of the kernel of a program that breaks no rule on names.
+use Rattle.std.specs.Prelude.{◌≡◌, Ok, IsTrue}
+use Rattle.ceu_tree.specs.declared.source.Tree.{Tree}
+use Rattle.ceu_tree.specs.Numbering.{is_numbered}
+use Rattle.ceu_scopes.specs.declared.known.Scopes.{Scopes}
+use Rattle.ceu_scopes.specs.Names.{scopes_of}
+use Rattle.ceu_types.specs.declared.typing.Types.{Types}
+use Rattle.ceu_expand.specs.Expansion.{kernel_of}
+use Rattle.ceu_proper.specs.Shaped.{TreePlaced, KernelShaped}
+
+-- nodes and slots are counted from 0 in pre-order over the program's text and then each code, its parameters before its body
+abbrev pub KernelsNumbered : Type 0
+KernelsNumbered = (tree : Tree) (s : Scopes) (t : Types) → scopes_of tree ≡ Ok s → IsTrue (is_numbered (kernel_of s t tree))
+
+-- positions, ranges and the branches of a par are taken over from the text
+abbrev pub KernelsShaped : Type 0
+KernelsShaped = (tree : Tree) (s : Scopes) (t : Types) → TreePlaced tree → KernelShaped (kernel_of s t tree)

@@ -1,0 +1,16 @@
+//! Laws of the kernel of a program, each the contract of a function with an empty body.
+#![tactic(auto)]
+
+ghost use Rattle.ceu_proper.specs.Laws.{KernelsNumbered, KernelsShaped};
+
+/// In the kernel of a program that breaks no rule on names, nodes and slots are counted from 0 in pre-order over the program's text
+/// and then each code, its parameters before its body.
+pub fn kernels_numbered()
+    ensures { KernelsNumbered }
+{}
+
+/// Where statements, declared names and spawns of a tree have positions, its numbers are in range and each par has two branches at
+/// least, so it is in the kernel; a par that isn't `par/and` has the slot 0 there.
+pub fn kernels_shaped()
+    ensures { KernelsShaped }
+{}
