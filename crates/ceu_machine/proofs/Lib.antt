@@ -1,2 +1,4 @@
 pub mod Keeping
 pub mod Rights
+pub mod EachGate
+pub mod Lists

@@ -2,7 +2,11 @@
 #![tactic(auto)]
 
 mod cells;
+mod emits;
+mod frames;
 mod gates;
+mod pools;
 mod slots;
+mod spawns;
 mod trails;
 mod words;
