@@ -2,3 +2,4 @@ pub mod Keeping
 pub mod Rights
 pub mod EachGate
 pub mod Lists
+pub mod Opcodes

@@ -3,8 +3,10 @@
 
 mod cells;
 mod emits;
+mod fetching;
 mod frames;
 mod gates;
+mod outputs;
 mod pools;
 mod slots;
 mod spawns;
