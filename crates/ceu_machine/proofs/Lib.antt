@@ -3,3 +3,4 @@ pub mod Rights
 pub mod EachGate
 pub mod Lists
 pub mod Opcodes
+pub mod Chains

@@ -2,3 +2,4 @@ pub mod Holding
 pub mod Rows
 pub mod Lives
 pub mod Seating
+pub mod Performing

@@ -7,6 +7,7 @@ mod fetching;
 mod frames;
 mod gates;
 mod outputs;
+mod performing;
 mod pools;
 mod slots;
 mod spawns;
