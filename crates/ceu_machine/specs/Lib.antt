@@ -3,3 +3,4 @@ pub mod Rows
 pub mod Lives
 pub mod Seating
 pub mod Performing
+pub mod Ordering

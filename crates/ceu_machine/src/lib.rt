@@ -6,6 +6,7 @@ mod emits;
 mod fetching;
 mod frames;
 mod gates;
+mod order;
 mod outputs;
 mod performing;
 mod pools;
