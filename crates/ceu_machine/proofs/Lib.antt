@@ -4,3 +4,4 @@ pub mod EachGate
 pub mod Lists
 pub mod Opcodes
 pub mod Chains
+pub mod Scans

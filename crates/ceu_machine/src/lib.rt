@@ -2,6 +2,7 @@
 #![tactic(auto)]
 
 mod cells;
+mod choosing;
 mod emits;
 mod fetching;
 mod frames;
