@@ -4,3 +4,5 @@ pub mod Lives
 pub mod Seating
 pub mod Performing
 pub mod Ordering
+pub mod Noting
+pub mod States
