@@ -13,7 +13,8 @@ use Rattle.ceu_mem.specs.Bytes.{number_at, with_number}
 use Rattle.ceu_isa.specs.Layout.{gate_of, gate_put, each_gate, gates_from}
 use Rattle.ceu_isa.specs.Cells.{popped, pushed}
 use Rattle.ceu_isa.specs.Fetching.{readers, read_by, decoded, fetched}
-use Rattle.ceu_isa.specs.Pools.{linked, alias_set, vacant, seated, instance_begun, life_of, filled, vacancies, free_place, some_taken}
+use Rattle.ceu_isa.specs.Trails.{opened, woken}
+use Rattle.ceu_isa.specs.Pools.{spawn_at, linked, alias_set, vacant, seated, instance_begun, life_of, filled, vacancies, free_place, some_taken}
 use Rattle.ceu_isa.specs.Rows.{effect}
 use Rattle.ceu_isa.specs.Order.{chain_in, before, found}
 use Rattle.ceu_isa.specs.Turns.{tick, ticks, longest_turn}
@@ -70,5 +71,5 @@ outputs c = (filter is_output (marks_of c), ending c)
 
 -- what computes
 unfoldable pub computed : ℕ
-unfolding popped pushed gate_of gate_put linked alias_set vacant seated instance_begun life_of number_at with_number each_gate gates_from readers read_by decoded fetched filled vacancies free_place some_taken effect chain_in before found tick ticks longest_turn next_turn reaction advanced idle_turns done all_done run
+unfolding spawn_at opened woken popped pushed gate_of gate_put linked alias_set vacant seated instance_begun life_of number_at with_number each_gate gates_from readers read_by decoded fetched filled vacancies free_place some_taken effect chain_in before found tick ticks longest_turn next_turn reaction advanced idle_turns done all_done run
 computed = 0

@@ -70,8 +70,15 @@ binary_row image o t position r bytes =
     for_some (slice_get image.places position) (λ p. for_some (popped image (right_type o t) r bytes)
     (λ b. for_some (popped image t b.registers bytes) (λ a. combined image o t p a b bytes)))
 
+abbrev pub converted : Image → Ty → Ty → Registers → List ℕ → Effect
+converted image t u r bytes = for_some (popped image t r bytes) (λ a. pushed image (wrapped u a.value) a.registers bytes)
+
+abbrev pub has_values : Ty → Bool
+has_values ty.None = false
+has_values _ = true
+
 abbrev pub convert_row : Image → Ty → Ty → Registers → List ℕ → Effect
-convert_row image t u r bytes = for_some (popped image t r bytes) (λ a. pushed image (wrapped u a.value) a.registers bytes)
+convert_row image t u r bytes = provided (has_values u) (converted image t u r bytes)
 
 -- ---- jumps
 

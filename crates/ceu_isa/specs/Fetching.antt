@@ -52,7 +52,7 @@ cell_type t = if is_signed t then ty.S64 else ty.U64
 
 -- ---- the instructions by opcode; `at` is where the operands begin
 
-abbrev Reader : Type 0
+abbrev pub Reader : Type 0
 Reader = List ℕ → (at : ℕ) → Option Instr
 
 abbrev no_instruction : Reader
@@ -77,36 +77,36 @@ abbrev half_type_then : (ℕ → Ty → Instr) → Reader
 half_type_then f code at = option_map (λ t. f (half code at) t) (any_type (byte code (at + 2)))
 
 -- a constant is a value of its type, extended to 8 bytes
-abbrev constant_of : ℤ → Ty → Option Instr
+abbrev pub constant_of : ℤ → Ty → Option Instr
 constant_of v t = if is_value t v then Some (instr.Push t v) else None
 
-abbrev pushed_constant : Reader
+abbrev pub pushed_constant : Reader
 pushed_constant code at = option_and_then (λ t. constant_of (value_at (cell_type t) code (at + 1)) t) (named_type (byte code at))
 
-abbrev prefix_operator : Reader
+abbrev pub prefix_operator : Reader
 prefix_operator code at =
     option_and_then (λ o. option_map (λ t. instr.Prefix o t (half code (at + 2))) (named_type (byte code (at + 1)))) (prefix_of (byte code at))
 
-abbrev binary_operator : Reader
+abbrev pub binary_operator : Reader
 binary_operator code at =
     option_and_then (λ o. option_map (λ t. instr.Binary o t (half code (at + 2))) (named_type (byte code (at + 1)))) (binary_of (byte code at))
 
-abbrev conversion : Reader
+abbrev pub conversion : Reader
 conversion code at = option_and_then (λ t. option_map (λ u. instr.Convert t u) (named_type (byte code (at + 1)))) (named_type (byte code at))
 
-abbrev header_value : Reader
+abbrev pub header_value : Reader
 header_value code at = option_map instr.Value (named_type (byte code at))
 
-abbrev awaited_time : Reader
+abbrev pub awaited_time : Reader
 awaited_time code at = option_map instr.WaitTime (unit_of (byte code at))
 
-abbrev pool : Reader
+abbrev pub pool : Reader
 pool code at = Some (instr.MakePool (half code at) (half code (at + 2)) (half code (at + 4)) (half code (at + 6)))
 
-abbrev spawn : Reader
+abbrev pub spawn : Reader
 spawn code at = Some (instr.Spawn (half code at) (half code (at + 2)) (half code (at + 4)) (half code (at + 6)) (half code (at + 8)))
 
-abbrev range_bound : Reader
+abbrev pub range_bound : Reader
 range_bound code at = if nat_le (byte code (at + 2)) 2 then Some (instr.RangeBound (half code at) (byte code (at + 2))) else None
 
 abbrev loop_limit : Reader
@@ -136,7 +136,7 @@ read_by (Some reader) code at = reader code at
 unfoldable pub decoded : List ℕ → ℕ → Option Instr
 decoded code at = read_by (slice_get readers (byte code at)) code (at + 1)
 
-abbrev if_whole : List ℕ → ℕ → Instr → Option Instr
+abbrev pub if_whole : List ℕ → ℕ → Instr → Option Instr
 if_whole code at i = if nat_le (at + size i) (length code) then Some i else None
 
 -- the whole instruction at an offset

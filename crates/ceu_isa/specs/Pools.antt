@@ -116,20 +116,20 @@ free_place (suc n) space at bytes = elim (number_at 1 bytes at == 0) [ true ↦ 
 unfoldable pub seated : (number : ℕ) → Registers → (place : ℕ) → List ℕ → List ℕ
 seated number r place bytes = linked 65535 r.frame r.base (place + 9) (with_number 4 number (with_number 1 1 bytes place) (place + 1))
 
-abbrev pub begun_at : CodeRow → (level place first : ℕ) → Gate → Gate
-begun_at row level place first gate = record gate { kind = can_run; level = level; code = row.entry; frame = place + 9; base = first }
+abbrev pub begun_at : (entry level place first : ℕ) → Gate → Gate
+begun_at entry level place first gate = record gate { kind = can_run; level = level; code = entry; frame = place + 9; base = first }
 
-unfoldable pub instance_begun : Image → CodeRow → (alias place first : ℕ) → Registers → Filled → List ℕ
-instance_begun image row alias place first r f =
-    gate_changed image (begun_at row (top_of f.bytes + 1) place first) first
-    (alias_set r alias place (given_of f.bytes + 1) (seated (given_of f.bytes + 1) r place (with_given (given_of f.bytes + 1) f.bytes)))
+unfoldable pub instance_begun : Image → (entry level number alias place first : ℕ) → Registers → List ℕ → List ℕ
+instance_begun image entry level number alias place first r bytes =
+    gate_changed image (begun_at entry level place first) first (alias_set r alias place number (seated number r place (with_given number bytes)))
 
 -- the instance is the only trail of the next level
 abbrev pub spawn_in : Image → CodeRow → (alias place first : ℕ) → Registers → List ℕ → Effect
 spawn_in image row alias place first r bytes =
     for_some (filled image row.params (place + 17) r bytes)
     (λ f. provided (((in_slots image place 17 && nat_lt first image.gates) && can_open image r bytes) && has_alias image r alias)
-    (Pauses (opened image r (instance_begun image row alias place first r f)) (Spawned (given_of bytes + 1) ∷ Push (top_of bytes + 1) ∷ [])))
+    (Pauses (opened image (top_of bytes) r (instance_begun image row.entry (top_of bytes + 1) (given_of bytes + 1) alias place first r f.bytes))
+    (Spawned (given_of bytes + 1) ∷ Push (top_of bytes + 1) ∷ [])))
 
 -- no place is free: the arguments are dropped
 abbrev pub spawn_nowhere : Image → CodeRow → (alias : ℕ) → Registers → List ℕ → Effect
@@ -137,15 +137,19 @@ spawn_nowhere image row alias r bytes =
     provided ((nat_le (length row.params) r.depth && nat_le r.depth image.depth) && has_alias image r alias)
     (Goes (record r { depth = r.depth - length row.params }) (alias_set r alias 0 0 bytes) (Full ∷ []))
 
-abbrev pub spawn_at : Image → CodeRow → Option ℕ → (alias : ℕ) → Pos → Registers → List ℕ → Effect
+unfoldable pub spawn_at : Image → CodeRow → Option ℕ → (alias : ℕ) → Pos → Registers → List ℕ → Effect
 spawn_at image row None alias p r bytes = spawn_nowhere image row alias r bytes
 spawn_at image row (Some place) alias p r bytes =
     if given_of bytes == 4294967295 then Faults SpawnCount p else spawn_in image row alias place (number_at 2 bytes (place + 5)) r bytes
 
+-- into one of n places from an address on
+abbrev pub spawn_among : Image → CodeRow → (n at alias : ℕ) → Pos → Registers → List ℕ → Effect
+spawn_among image row n at alias p r bytes =
+    provided (in_slots image at (n * place_size row)) (spawn_at image row (free_place n (place_size row) at bytes) alias p r bytes)
+
 abbrev pub spawn_row : Image → (code slot n alias position : ℕ) → Registers → List ℕ → Effect
 spawn_row image code slot n alias position r bytes =
-    for_some (slice_get image.codes code) (λ row. for_some (slice_get image.places position)
-    (λ p. provided (in_slots image (here r slot) (n * place_size row)) (spawn_at image row (free_place n (place_size row) (here r slot) bytes) alias p r bytes)))
+    for_some (slice_get image.codes code) (λ row. for_some (slice_get image.places position) (λ p. spawn_among image row n (here r slot) alias p r bytes))
 
 -- ---- does an instance live, and killing it
 

@@ -66,12 +66,12 @@ waits_for event frame gate = ((gate.kind == on_event) && (gate.key == event)) &&
 abbrev pub woken_at : (level value : ℕ) → Gate → Gate
 woken_at level value gate = record gate { kind = can_run; level = level; value = value }
 
-abbrev pub woken : Image → (event : ℕ) → (value : ℤ) → Registers → List ℕ → List ℕ
-woken image event value r bytes = each_gate image (waits_for event r.frame) (woken_at (top_of bytes + 1) (cell value)) image.gates bytes
+unfoldable pub woken : Image → (event level value frame : ℕ) → List ℕ → List ℕ
+woken image event level value frame bytes = each_gate image (waits_for event frame) (woken_at level value) image.gates bytes
 
--- the trail can go on at the top level, and the next level opens
-abbrev pub opened : Image → Registers → List ℕ → List ℕ
-opened image r bytes = with_top (top_of bytes + 1) (gate_changed image (kept_running (top_of bytes) r) r.own bytes)
+-- the trail can go on at its level, and the next level opens
+unfoldable pub opened : Image → (level : ℕ) → Registers → List ℕ → List ℕ
+opened image level r bytes = with_top (level + 1) (gate_changed image (kept_running level r) r.own bytes)
 
 abbrev pub can_open : Image → Registers → List ℕ → Bool
 can_open image r bytes = nat_lt r.own image.gates && nat_lt (top_of bytes) image.levels
@@ -79,7 +79,8 @@ can_open image r bytes = nat_lt r.own image.gates && nat_lt (top_of bytes) image
 abbrev pub emit_row : Image → (event : ℕ) → Ty → Registers → List ℕ → Effect
 emit_row image event t r bytes =
     for_some (popped_unless_none image t r bytes)
-    (λ a. provided (can_open image a.registers bytes) (Pauses (opened image a.registers (woken image event a.value a.registers bytes)) (Push (top_of bytes + 1) ∷ [])))
+    (λ a. provided (can_open image a.registers bytes)
+    (Pauses (opened image (top_of bytes) a.registers (woken image event (top_of bytes + 1) (cell a.value) a.registers.frame bytes)) (Push (top_of bytes + 1) ∷ [])))
 
 -- ---- other trails
 

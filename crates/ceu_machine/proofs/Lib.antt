@@ -1,2 +1,7 @@
 pub mod Keeping
 pub mod Rights
+pub mod EachGate
+pub mod Lists
+pub mod Opcodes
+pub mod Chains
+pub mod Scans

@@ -24,6 +24,10 @@ pub provided_is : (b : Bool) (e : Effect) → IsRight (provided b e) → provide
 provided_is true e h = refl
 provided_is false e h = absurd h
 
+pub provided_true : (b : Bool) (e : Effect) → IsRight (provided b e) → b ≡ true
+provided_true true e h = refl
+provided_true false e h = absurd h
+
 -- a value that goes through 128 bits
 pub same_value : (v : ℤ) → FitsSigned w128 v → to_z w128 (of_z w128 v) ≡ v
 same_value v h = to_z-of_z w128 v h

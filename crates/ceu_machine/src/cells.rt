@@ -150,12 +150,21 @@ fn combine(
     push_answer(image, mem, regs, apply2(op, ty, a, right.value), pos)
 }
 
-#[tactic(auto, using(crate::proofs::Rights::any_value))]
 pub fn convert(image: &Image, mem: &mut Memory, regs: &mut Registers, from: Ty, to: Ty)
     requires made { IsMachine image.now mem.old }
-    requires typed { to ≢ Ty.None }
     requires right { IsRight (spec.convert_row image.now from to regs.old mem.old.bytes) }
     ensures effect { spec.convert_row image.now from to regs.old mem.old.bytes ≡ Goes regs.new mem.new.bytes [] }
+    ensures made { IsMachine image.now mem.new }
+{
+    convert_value(image, mem, regs, from, to);
+}
+
+#[tactic(auto, using(crate::proofs::Rights::any_value))]
+fn convert_value(image: &Image, mem: &mut Memory, regs: &mut Registers, from: Ty, to: Ty)
+    requires made { IsMachine image.now mem.old }
+    requires typed { to ≢ Ty.None }
+    requires right { IsRight (spec.converted image.now from to regs.old mem.old.bytes) }
+    ensures effect { spec.converted image.now from to regs.old mem.old.bytes ≡ Goes regs.new mem.new.bytes [] }
     ensures made { IsMachine image.now mem.new }
 {
     let a = pop(image, mem, regs, from);

@@ -1,5 +1,5 @@
 // Variables and loops.
-ghost use Rattle.std.specs.Prelude.{◌≡◌, ◌≤◌, ◌+◌, []};
+ghost use Rattle.std.specs.Prelude.{◌≡◌, ◌≤◌, ◌<◌, ◌+◌, ◌^◌, []};
 ghost use Rattle.ceu_isa.specs.Layout as layout;
 ghost use Rattle.ceu_isa.specs.Effects.{Goes};
 ghost use Rattle.ceu_isa.specs.Slots as spec;
@@ -14,7 +14,8 @@ use ceu_mem::Memory;
 
 /// The address of the program's frame.
 pub fn first_slot(image: &Image) -> u32
-    ensures { result ≡ layout.slots_at image.now }
+    ensures value { result ≡ layout.slots_at image.now }
+    ensures small { result < 2 ^ 21 }
 {
     let depth = image.depth;
     let gates = image.gates;

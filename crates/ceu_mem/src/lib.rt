@@ -10,4 +10,4 @@ mod tests;
 
 pub use gate::Gate;
 pub use laws::{gates_stay_apart, numbers_stay_apart};
-pub use memory::Memory;
+pub use memory::{Memory, size, with_sign};

@@ -41,7 +41,7 @@ pub fn size(ty: Ty) -> u8
 }
 
 /// What is added at least for a negative number: 2 to the width, where the bits are those of one.
-fn with_sign(ty: Ty, bits: u64) -> i128
+pub fn with_sign(ty: Ty, bits: u64) -> i128
     ensures { result ≡ spec.with_sign ty bits }
 {
     let bits = i128::from(bits);
