@@ -7,8 +7,9 @@ use Rattle.std.proofs.lemmas.Nat.{div-mul-add}
 use Rattle.std.proofs.lemmas.Bool.{cases_lt}
 use Rattle.ceu_code.specs.declared.span.Span.{Span}
 use Rattle.ceu_code.specs.Table.{low_first, InSpan, InEither, empty_span}
-use Rattle.ceu_code.specs.Reading.{Reads, Words, Stops, Unique, IsIn, IsBetween, narrowed, HasNumbers}
-use Rattle.ceu_code.proofs.Reading.{same_head, same_tail, stop_here, stop_byte}
+use Rattle.ceu_code.specs.declared.decoding.DecodeError.{DecodeError}
+use Rattle.ceu_code.specs.Reading.{Reads, Words, Stops, Refused, Unique, IsIn, IsBetween, narrowed, HasNumbers}
+use Rattle.ceu_code.proofs.Reading.{same_head, same_tail, stop_here, stop_byte, stop_same, refused_more}
 
 split_256 : (n : ℕ) → 256 * (n / 256) + n % 256 ≡ n
 split_256 n = div-add-mod n 256
@@ -155,3 +156,21 @@ reads_nothing width low high bytes at none inside p q some =
 -- the first byte and what is behind it
 pub cut_at : (bytes : List ℕ) (at : ℕ) → at < length bytes → drop at bytes ≡ get_or bytes at 0 ∷ drop (at + 1) bytes
 cut_at bytes at inside = rw (add-one, drop-cons bytes at 0)
+
+-- a number of one span
+pub one_span_to : (k least greatest : ℕ) (empty : Span) → empty.to < empty.from → (n : ℕ) (w : List ℕ) → IsIn k (record { from = least; to = greatest }) empty n w → IsBetween k least greatest n w
+one_span_to k least greatest empty none n w (inl h, e) = (h, e)
+one_span_to k least greatest empty none n w (inr h, e) = let l : empty.from ≤ n = h.0 in let r : n ≤ empty.to = h.1 in absurd (omega arith)
+
+pub one_span_from : (k least greatest : ℕ) (empty : Span) (n : ℕ) (w : List ℕ) → IsBetween k least greatest n w → IsIn k (record { from = least; to = greatest }) empty n w
+one_span_from k least greatest empty n w h = (inl h.0, h.1)
+
+pub one_span_read : (k least greatest : ℕ) (empty : Span) → empty.to < empty.from → (bytes : List ℕ) (at n next : ℕ) → Reads (IsIn k (record { from = least; to = greatest }) empty) bytes at n next → Reads (IsBetween k least greatest) bytes at n next
+one_span_read k least greatest empty none bytes at n next r = record { word = r.word; form = one_span_to k least greatest empty none n r.word r.form; split = r.split; ahead = r.ahead; within = r.within }
+
+pub one_span_refused : (k least greatest : ℕ) (empty : Span) → empty.to < empty.from → (bytes : List ℕ) (at : ℕ) (e : DecodeError) → Refused (Words (IsIn k (record { from = least; to = greatest }) empty)) bytes at e → Refused (Words (IsBetween k least greatest)) bytes at e
+one_span_refused k least greatest empty none bytes at e =
+    refused_more (Words (IsBetween k least greatest)) (Words (IsIn k (record { from = least; to = greatest }) empty)) bytes at at e
+      (λ stop s. stop_same (Words (IsIn k (record { from = least; to = greatest }) empty)) (Words (IsBetween k least greatest)) bytes at stop
+        (λ w h. (h.0, one_span_to k least greatest empty none h.0 w h.1))
+        (λ w h. (h.0, one_span_from k least greatest empty h.0 w h.1)) s)

@@ -1,12 +1,14 @@
 //! The flat code that a program becomes: instructions, images, and the one spelling of an image as bytes.
 #![tactic(auto)]
 
+mod code;
 mod decoding;
 mod encoding;
 mod image;
 mod instr;
 mod number;
 
+mod row;
 mod span;
 mod spelled;
 mod table;
