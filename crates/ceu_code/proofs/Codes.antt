@@ -245,19 +245,19 @@ module _ (bytes : List ℕ) (at : ℕ) (all : List Operand) (kind : Operand) (ki
   pub first_refused : (e : DecodeError) → Refused (Words (Word (IsOperand kind))) bytes at e → Refused (Words (Word (IsOperands all))) bytes at e
   first_refused e r =
       subst (λ (ks : List Operand). Refused (Words (Word (IsOperands ks))) bytes at e) is
-        (refused_own (Both kind kinds) (IsOperands (kind ∷ kinds)) bytes at e (operands_to kind kinds) (operands_from kind kinds)
-          (pair_first (Word (IsOperand kind)) (λ _. Word (IsOperands kinds)) bytes at e (λ _. let s = some_operands kinds in (s.0, (s.0, (s.1, refl)))) r))
+      (refused_own (Both kind kinds) (IsOperands (kind ∷ kinds)) bytes at e (operands_to kind kinds) (operands_from kind kinds)
+      (pair_first (Word (IsOperand kind)) (λ _. Word (IsOperands kinds)) bytes at e (λ _. let s = some_operands kinds in (s.0, (s.0, (s.1, refl)))) r))
 
   pub rest_refused : (mid : ℕ) (v : List ℕ) (e : DecodeError) → Reads (Word (IsOperand kind)) bytes at v mid → Refused (Words (Word (IsOperands kinds))) bytes mid e → Refused (Words (Word (IsOperands all))) bytes at e
   rest_refused mid v e r1 r =
       subst (λ (ks : List Operand). Refused (Words (Word (IsOperands ks))) bytes at e) is
-        (refused_own (Both kind kinds) (IsOperands (kind ∷ kinds)) bytes at e (operands_to kind kinds) (operands_from kind kinds)
-          (pair_second (Word (IsOperand kind)) (λ _. Word (IsOperands kinds)) bytes at mid v e (unique_own (IsOperand kind) (apart_operand kind)) r1 r))
+      (refused_own (Both kind kinds) (IsOperands (kind ∷ kinds)) bytes at e (operands_to kind kinds) (operands_from kind kinds)
+      (pair_second (Word (IsOperand kind)) (λ _. Word (IsOperands kinds)) bytes at mid v e (unique_own (IsOperand kind) (apart_operand kind)) r1 r))
 
   pub all_read : (mid next : ℕ) (v u : List ℕ) → Reads (Word (IsOperand kind)) bytes at v mid → Reads (Word (IsOperands kinds)) bytes mid u next → Reads (Word (IsOperands all)) bytes at (slice_range bytes at next) next
   all_read mid next v u r1 r2 =
       subst (λ (ks : List Operand). Reads (Word (IsOperands ks)) bytes at (slice_range bytes at next) next) is
-        (reads_own (Both kind kinds) (IsOperands (kind ∷ kinds)) bytes at next (v, u) (operands_to kind kinds (v, u)) (read_pair (Word (IsOperand kind)) (λ _. Word (IsOperands kinds)) bytes at mid next v u r1 r2))
+      (reads_own (Both kind kinds) (IsOperands (kind ∷ kinds)) bytes at next (v, u) (operands_to kind kinds (v, u)) (read_pair (Word (IsOperand kind)) (λ _. Word (IsOperands kinds)) bytes at mid next v u r1 r2))
 
 -- ---- whole instructions
 
@@ -364,8 +364,8 @@ module _ (bytes : List ℕ) (at left : ℕ) (some : 0 < left) where
       behind_read next fits r =
           let v = slice_range bytes (at + 1) next in
           read_slice (Word (IsInstructionIn left)) bytes at next (b ∷ v) (λ w f. f.1) (read_cons (Word (IsInstructionIn left)) (Word (IsOperands (operands row))) bytes at next b v cut (λ w f.
-            let long = operands_long (operands row) w f.0 in
-            ((record { opcode = b; row = row; behind = w; known = known; whole = f.0; spelled = refl }, omega arith), ap (λ (u : List ℕ). b ∷ u) f.1)) r)
+          let long = operands_long (operands row) w f.0 in
+          ((record { opcode = b; row = row; behind = w; known = known; whole = f.0; spelled = refl }, omega arith), ap (λ (u : List ℕ). b ∷ u) f.1)) r)
 
 -- ---- code
 
@@ -439,14 +439,14 @@ code_stops (i ∷ is) p bytes at mid n k within split ahead s =
     let read : Reads (Word (IsInstructionIn total)) bytes at i next = record { word = i; form = ((p.0, omega arith), refl); split = whole ∙ ap (λ (a : List ℕ). i ++ a) (sym tail); ahead = refl; within = omega arith } in
     let some : 0 < length i = instruction_long i p.0 in
     refused_own (Next total) (IsCodeOf total) bytes at (Bad k) (next_to total) (next_from total (omega arith))
-      (pair_second (Word (IsInstructionIn total)) (λ v. Word (IsCodeOf (total - length v))) bytes at next i (Bad k) (unique_instruction total) read
-        (subst (λ (m : ℕ). Stops (Words (Word (IsCodeOf m))) bytes next k) (sym left) inner))
+    (pair_second (Word (IsInstructionIn total)) (λ v. Word (IsCodeOf (total - length v))) bytes at next i (Bad k) (unique_instruction total) read
+    (subst (λ (m : ℕ). Stops (Words (Word (IsCodeOf m))) bytes next k) (sym left) inner))
 
 pub code_read_on : (bytes : List ℕ) (at mid next left : ℕ) → Reads (Word IsCode) bytes at (slice_range bytes at mid) mid → Reads (Word (IsInstructionIn left)) bytes mid (slice_range bytes mid next) next → Reads (Word IsCode) bytes at (slice_range bytes at next) next
 code_read_on bytes at mid next left r s =
     let code = r.form.0 in
     let whole = read_both (Word IsCode) (Word (IsInstructionIn left)) (λ (v : List ℕ) (w : List ℕ). IsCode w) bytes at mid next (slice_range bytes at mid) (slice_range bytes mid next) [] (λ a b f g.
-      record { instructions = f.0.instructions ++ (b ∷ []); whole = all_instructions f.0.instructions (b ∷ []) f.0.whole (g.0.0, tt); spelled = ap (λ (l : List ℕ). l ++ b) f.0.spelled ∙ ap (λ (l : List ℕ). flat_map (λ i. i) f.0.instructions ++ l) (sym (append-nil b)) ∙ sym (flat_map-append (λ i. i) f.0.instructions (b ∷ [])) }) r s in
+    record { instructions = f.0.instructions ++ (b ∷ []); whole = all_instructions f.0.instructions (b ∷ []) f.0.whole (g.0.0, tt); spelled = ap (λ (l : List ℕ). l ++ b) f.0.spelled ∙ ap (λ (l : List ℕ). flat_map (λ i. i) f.0.instructions ++ l) (sym (append-nil b)) ∙ sym (flat_map-append (λ i. i) f.0.instructions (b ∷ [])) }) r s in
     reads_own (λ (v : List ℕ) (w : List ℕ). IsCode w) IsCode bytes at next [] (λ w f. f) whole
 
 pub no_code_read : (bytes : List ℕ) (at : ℕ) → at ≤ length bytes → Reads (Word IsCode) bytes at (slice_range bytes at at) at
@@ -455,10 +455,13 @@ no_code_read bytes at inside = reads_own (λ (v : List ℕ) (w : List ℕ). IsCo
 pub code_refused : (bytes : List ℕ) (at mid left count : ℕ) (v : List ℕ) (e : DecodeError) → 0 < left → mid + left ≡ at + count → Reads (Word IsCode) bytes at v mid → Refused (Words (Word (IsInstructionIn left))) bytes mid e → Refused (Words (Word (IsCodeOf count))) bytes at e
 code_refused bytes at mid left count v e some total r refused =
     refused_more (Words (Word (IsCodeOf count))) (Words (Word (IsInstructionIn left))) bytes at mid e (λ k s.
-      let code = r.form.0 in
-      let spelled = code.spelled in
-      let long : length r.word ≡ length (flat_map (λ i. i) code.instructions) = ap length spelled in
-      let ahead : mid ≡ at + length (flat_map (λ i. i) code.instructions) = r.ahead ∙ ap (λ (n : ℕ). at + n) long in
-      let all = code_stops code.instructions code.whole bytes at mid left k r.within (r.split ∙ ap (λ (w : List ℕ). w ++ drop mid bytes) spelled) ahead (code_stops_here bytes mid left k some s) in
-      let sum : length (flat_map (λ i. i) code.instructions) + left ≡ count = omega arith in
-      subst (λ (n : ℕ). Stops (Words (Word (IsCodeOf n))) bytes at k) sum all) refused
+    let code = r.form.0 in
+    let spelled = code.spelled in
+    let long : length r.word ≡ length (flat_map (λ i. i) code.instructions) = ap length spelled in
+    let ahead : mid ≡ at + length (flat_map (λ i. i) code.instructions) = r.ahead ∙ ap (λ (n : ℕ). at + n) long in
+    let all = code_stops code.instructions code.whole bytes at mid left k r.within (r.split ∙ ap (λ (w : List ℕ). w ++ drop mid bytes) spelled) ahead (code_stops_here bytes mid left k some s) in
+    let sum : length (flat_map (λ i. i) code.instructions) + left ≡ count = omega arith in
+    subst (λ (n : ℕ). Stops (Words (Word (IsCodeOf n))) bytes at k) sum all) refused
+
+pub apart_code : (n : ℕ) → Apart (IsCodeOf n)
+apart_code n a b x y f g e = sym (take-append_seam a x) ∙ ap (take (length a)) e ∙ ap (λ (m : ℕ). take m (b ++ y)) (f.1 ∙ sym g.1) ∙ take-append_seam b y

@@ -5,3 +5,7 @@ pub mod Rows
 pub mod Parsed
 pub mod Ports
 pub mod Codes
+pub mod Heads
+pub mod Amounts
+pub mod Listed
+pub mod Images

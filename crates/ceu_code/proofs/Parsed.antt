@@ -40,18 +40,19 @@ abbrev words_of : Pos → ℕ × ℕ
 words_of p = (p.line, p.col)
 
 place_to : (p : ℕ × ℕ) (w : List ℕ) → TwoWords p w → Place (place_of p) w
-place_to p w t =
-    (record { line = (t.is_first.0.0, let h : p.0 ≤ 4294967295 = t.is_first.0.1 in omega arith); col = (t.is_second.0.0, let h : p.1 ≤ 4294967295 = t.is_second.0.1 in omega arith) },
-     t.joined ∙ ap (λ (l : List ℕ). l ++ t.second) t.is_first.1 ∙ ap (λ (l : List ℕ). word p.0 ++ l) t.is_second.1)
+place_to p w t = (
+  record { line = (t.is_first.0.0, let h : p.0 ≤ 4294967295 = t.is_first.0.1 in omega arith); col = (t.is_second.0.0, let h : p.1 ≤ 4294967295 = t.is_second.0.1 in omega arith) },
+  t.joined ∙ ap (λ (l : List ℕ). l ++ t.second) t.is_first.1 ∙ ap (λ (l : List ℕ). word p.0 ++ l) t.is_second.1,
+)
 
 place_from : (p : Pos) (w : List ℕ) → Place p w → TwoWords (words_of p) w
 place_from p w (v, e) = record {
-    first = word p.line;
-    second = word p.col;
-    is_first = ((v.line.0, let h : p.line < 2 ^ 32 = v.line.1 in omega arith), refl);
-    is_second = ((v.col.0, let h : p.col < 2 ^ 32 = v.col.1 in omega arith), refl);
-    joined = e
-  }
+  first = word p.line;
+  second = word p.col;
+  is_first = ((v.line.0, let h : p.line < 2 ^ 32 = v.line.1 in omega arith), refl);
+  is_second = ((v.col.0, let h : p.col < 2 ^ 32 = v.col.1 in omega arith), refl);
+  joined = e;
+}
 
 unique_word : Unique W
 unique_word = unique_between 4 1 4294967295 (omega arith)
@@ -174,19 +175,20 @@ row_to p w t =
     let t1 = t.is_second in
     let t2 = t1.is_second in
     let t3 = t2.is_second in
-    let params = params_word p.1.1.1 t2.second t3 in
-    (record {
-       entry = below_half p.0 t.is_first.0.1;
-       frame = below_half p.1.0 t1.is_first.0.1;
-       gates = below_half p.1.1.0 t2.is_first.0.1;
-       few = let h = params.0 in omega arith;
-       typed = t3.is_second.1
-     },
-     t.joined
-     ∙ ap (λ (a : List ℕ). a ++ t.second) t.is_first.1
-     ∙ ap (λ (a : List ℕ). half p.0 ++ a) (t1.joined ∙ ap (λ (a : List ℕ). a ++ t1.second) t1.is_first.1)
-     ∙ ap (λ (a : List ℕ). half p.0 ++ (half p.1.0 ++ a)) (t2.joined ∙ ap (λ (a : List ℕ). a ++ t2.second) t2.is_first.1)
-     ∙ ap (λ (a : List ℕ). half p.0 ++ (half p.1.0 ++ (half p.1.1.0 ++ a))) params.1)
+    let params = params_word p.1.1.1 t2.second t3 in (
+      record {
+        entry = below_half p.0 t.is_first.0.1;
+        frame = below_half p.1.0 t1.is_first.0.1;
+        gates = below_half p.1.1.0 t2.is_first.0.1;
+        few = let h = params.0 in omega arith;
+        typed = t3.is_second.1;
+      },
+      t.joined
+          ∙ ap (λ (a : List ℕ). a ++ t.second) t.is_first.1
+          ∙ ap (λ (a : List ℕ). half p.0 ++ a) (t1.joined ∙ ap (λ (a : List ℕ). a ++ t1.second) t1.is_first.1)
+          ∙ ap (λ (a : List ℕ). half p.0 ++ (half p.1.0 ++ a)) (t2.joined ∙ ap (λ (a : List ℕ). a ++ t2.second) t2.is_first.1)
+          ∙ ap (λ (a : List ℕ). half p.0 ++ (half p.1.0 ++ (half p.1.1.0 ++ a))) params.1,
+    )
 
 within_half : (n : ℕ) → n < 2 ^ 16 → (0 ≤ n) × (n ≤ 65535)
 within_half n h = (omega arith, omega arith)
@@ -194,12 +196,12 @@ within_half n h = (omega arith, omega arith)
 row_from : (r : CodeRow) (w : List ℕ) → Row r w → Row0 (parts_of r) w
 row_from r w (v, e) =
     let last : Row3 (length r.params, r.params) (length r.params ∷ map type_byte r.params) = record {
-        first = low_first 1 (length r.params);
-        second = flat_map ty_bytes r.params;
-        is_first = ((omega arith, let h = v.few in omega arith), refl);
-        is_second = (refl, v.typed, refl);
-        joined = ap (λ (a : List ℕ). length r.params ∷ a) (sym (types_put r.params)) ∙ ap (λ (a : List ℕ). a ++ flat_map ty_bytes r.params) (sym (byte_word (length r.params) (let h = v.few in omega arith)))
-      } in
+      first = low_first 1 (length r.params);
+      second = flat_map ty_bytes r.params;
+      is_first = ((omega arith, let h = v.few in omega arith), refl);
+      is_second = (refl, v.typed, refl);
+      joined = ap (λ (a : List ℕ). length r.params ∷ a) (sym (types_put r.params)) ∙ ap (λ (a : List ℕ). a ++ flat_map ty_bytes r.params) (sym (byte_word (length r.params) (let h = v.few in omega arith)));
+    } in
     let gates : Row2 (r.gates, (length r.params, r.params)) (half r.gates ++ (length r.params ∷ map type_byte r.params)) = record { first = half r.gates; second = length r.params ∷ map type_byte r.params; is_first = (within_half r.gates v.gates, refl); is_second = last; joined = refl } in
     let frame : Row1 (r.frame, (r.gates, (length r.params, r.params))) (half r.frame ++ (half r.gates ++ (length r.params ∷ map type_byte r.params))) = record { first = half r.frame; second = half r.gates ++ (length r.params ∷ map type_byte r.params); is_first = (within_half r.frame v.frame, refl); is_second = gates; joined = refl } in
     record { first = half r.entry; second = half r.frame ++ (half r.gates ++ (length r.params ∷ map type_byte r.params)); is_first = (within_half r.entry v.entry, refl); is_second = frame; joined = e }
@@ -253,4 +255,4 @@ module _ (bytes : List ℕ) (e : DecodeError) where
 pub row_read : (bytes : List ℕ) (at at1 at2 at3 at4 next entry frame gates count : ℕ) (params : List Ty) → Reads H bytes at entry at1 → Reads H bytes at1 frame at2 → Reads H bytes at2 gates at3 → Reads C bytes at3 count at4 → Reads (T count) bytes at4 params next → Reads Row bytes at (record { entry = entry; frame = frame; gates = gates; params = params }) next
 row_read bytes at at1 at2 at3 at4 next entry frame gates count params r1 r2 r3 r4 r5 =
     reads_as Row0 Row bytes at next (entry, (frame, (gates, (count, params)))) (record { entry = entry; frame = frame; gates = gates; params = params }) (row_to (entry, (frame, (gates, (count, params)))))
-      (read_pair H (λ _. Row1) bytes at at1 next entry (frame, (gates, (count, params))) r1 (read_pair H (λ _. Row2) bytes at1 at2 next frame (gates, (count, params)) r2 (read_pair H (λ _. Row3) bytes at2 at3 next gates (count, params) r3 (read_pair C T bytes at3 at4 next count params r4 r5))))
+    (read_pair H (λ _. Row1) bytes at at1 next entry (frame, (gates, (count, params))) r1 (read_pair H (λ _. Row2) bytes at1 at2 next frame (gates, (count, params)) r2 (read_pair H (λ _. Row3) bytes at2 at3 next gates (count, params) r3 (read_pair C T bytes at3 at4 next count params r4 r5))))

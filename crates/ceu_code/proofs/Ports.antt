@@ -71,7 +71,7 @@ module _ (count k : ℕ) (is : suc k ≡ count) (bytes : List ℕ) (at : ℕ) wh
   rest_read b next cut t r =
       let v = slice_range bytes (at + 1) next in
       subst (λ (n : ℕ). Reads (IsNameRest n) bytes at (slice_range bytes at next) next) is
-        (read_slice (IsNameRest (suc k)) bytes at next (b ∷ v) (λ w f. f.2) (read_cons (IsNameRest (suc k)) (IsNameRest k) bytes at next b v cut (λ w f. (ap suc f.0, (t, f.1), ap (λ (u : List ℕ). b ∷ u) f.2)) r))
+      (read_slice (IsNameRest (suc k)) bytes at next (b ∷ v) (λ w f. f.2) (read_cons (IsNameRest (suc k)) (IsNameRest k) bytes at next b v cut (λ w f. (ap suc f.0, (t, f.1), ap (λ (u : List ℕ). b ∷ u) f.2)) r))
 
 -- ---- names
 
@@ -167,9 +167,10 @@ port_to p w t =
     let kind : p.0 ≤ 9 = t.is_first.0.1 in
     let long : length p.1.1 ≡ p.1.0 - 1 + 1 = t1.is_second.0 in
     let first : t.first ≡ type_byte (type_at p.0) ∷ [] = t.is_first.1 ∙ byte_word p.0 (omega arith) ∙ ap (λ (b : ℕ). b ∷ []) (sym (type_byte-at p.0 kind)) in
-    let second : t1.first ≡ length p.1.1 ∷ [] = t1.is_first.1 ∙ byte_word p.1.0 (omega arith) ∙ ap (λ (b : ℕ). b ∷ []) (let e : p.1.0 ≡ length p.1.1 = omega arith in e) in
-    (record { form = t1.is_second.1; short = omega arith },
-     t.joined ∙ ap (λ (a : List ℕ). a ++ t.second) first ∙ ap (λ (a : List ℕ). type_byte (type_at p.0) ∷ a) (t1.joined ∙ ap (λ (a : List ℕ). a ++ t1.second) second ∙ ap (λ (a : List ℕ). length p.1.1 ∷ a) t1.is_second.2))
+    let second : t1.first ≡ length p.1.1 ∷ [] = t1.is_first.1 ∙ byte_word p.1.0 (omega arith) ∙ ap (λ (b : ℕ). b ∷ []) (let e : p.1.0 ≡ length p.1.1 = omega arith in e) in (
+      record { form = t1.is_second.1; short = omega arith },
+      t.joined ∙ ap (λ (a : List ℕ). a ++ t.second) first ∙ ap (λ (a : List ℕ). type_byte (type_at p.0) ∷ a) (t1.joined ∙ ap (λ (a : List ℕ). a ++ t1.second) second ∙ ap (λ (a : List ℕ). length p.1.1 ∷ a) t1.is_second.2),
+    )
 
 named_long : (name : List ℕ) → IsExternalName name → 1 ≤ length name
 named_long [] p = absurd p

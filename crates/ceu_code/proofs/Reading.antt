@@ -25,18 +25,18 @@ module _ {V : Type 0} (F : V → List ℕ → Type 0) (L : V → List ℕ → Ty
   -- where the first part stops, both do
   pub stop_first : (at k : ℕ) → ((v : V) (word : List ℕ) → F v word → (w : List ℕ) × L v w) → Stops (Words F) bytes at k → Stops (Then F L) bytes at k
   stop_first at k goes_on s = record {
-      front = s.front;
-      split = s.split;
-      ahead = s.ahead;
-      within = s.within;
-      begins =
+    front = s.front;
+    split = s.split;
+    ahead = s.ahead;
+    within = s.within;
+    begins =
         let v = s.begins.1.0 in
         let first = s.front ++ s.begins.0 in
         let last = goes_on v first s.begins.1.1 in
         (s.begins.0 ++ last.0, record { value = v; first = first; second = last.0; is_first = s.begins.1.1; is_second = last.1; joined = sym (append_assoc s.front s.begins.0 last.0) });
-      never = λ word rest t e. s.never t.first (t.second ++ rest) (t.value, t.is_first) (e ∙ ap (λ (w : List ℕ). w ++ rest) t.joined ∙ append_assoc t.first t.second rest);
-      longest = λ b rest more e t. beyond b rest more e t (append_split s.front (b ∷ more) t.first t.second t.joined)
-    }
+    never = λ word rest t e. s.never t.first (t.second ++ rest) (t.value, t.is_first) (e ∙ ap (λ (w : List ℕ). w ++ rest) t.joined ∙ append_assoc t.first t.second rest);
+    longest = λ b rest more e t. beyond b rest more e t (append_split s.front (b ∷ more) t.first t.second t.joined);
+  }
     where
       inner : (b : ℕ) (rest more : List ℕ) → drop k bytes ≡ b ∷ rest → (t : Then F L (s.front ++ b ∷ more)) (c : List ℕ) → t.first ≡ s.front ++ c → b ∷ more ≡ c ++ t.second → ⊥
       inner b rest more e t [] p q = s.never t.first (drop k bytes) (t.value, t.is_first) (s.split ∙ ap (λ (w : List ℕ). w ++ drop k bytes) (sym (p ∙ append-nil s.front)))
@@ -49,45 +49,45 @@ module _ {V : Type 0} (F : V → List ℕ → Type 0) (L : V → List ℕ → Ty
   -- where the first part is read and the second stops, both stop
   pub stop_second : (at mid k : ℕ) (v : V) → Unique F → Reads F bytes at v mid → Stops (L v) bytes mid k → Stops (Then F L) bytes at k
   stop_second at mid k v one r s = record {
-      front = r.word ++ s.front;
-      split = r.split ∙ ap (λ (w : List ℕ). r.word ++ w) s.split ∙ sym (append_assoc r.word s.front (drop k bytes));
-      ahead = let e = length-append r.word s.front in let a = r.ahead in let b = s.ahead in omega arith;
-      within = s.within;
-      begins = (s.begins.0, record { value = v; first = r.word; second = s.front ++ s.begins.0; is_first = r.form; is_second = s.begins.1; joined = append_assoc r.word s.front s.begins.0 });
-      never = λ word rest t e.
+    front = r.word ++ s.front;
+    split = r.split ∙ ap (λ (w : List ℕ). r.word ++ w) s.split ∙ sym (append_assoc r.word s.front (drop k bytes));
+    ahead = let e = length-append r.word s.front in let a = r.ahead in let b = s.ahead in omega arith;
+    within = s.within;
+    begins = (s.begins.0, record { value = v; first = r.word; second = s.front ++ s.begins.0; is_first = r.form; is_second = s.begins.1; joined = append_assoc r.word s.front s.begins.0 });
+    never = λ word rest t e.
         let both : r.word ++ drop mid bytes ≡ t.first ++ (t.second ++ rest) = sym r.split ∙ e ∙ ap (λ (w : List ℕ). w ++ rest) t.joined ∙ append_assoc t.first t.second rest in
         let same = one v t.value r.word t.first (drop mid bytes) (t.second ++ rest) r.form t.is_first both in
         s.never t.second rest (subst (λ (u : V). L u t.second) (sym same.0) t.is_second) (append_cancel_left r.word (drop mid bytes) (t.second ++ rest) (both ∙ ap (λ (w : List ℕ). w ++ (t.second ++ rest)) (sym same.1)));
-      longest = λ b rest more e t.
+    longest = λ b rest more e t.
         let both : r.word ++ (s.front ++ b ∷ more) ≡ t.first ++ t.second = sym (append_assoc r.word s.front (b ∷ more)) ∙ t.joined in
         let same = one v t.value r.word t.first (s.front ++ b ∷ more) t.second r.form t.is_first both in
         let tail : t.second ≡ s.front ++ b ∷ more = sym (append_cancel_left r.word (s.front ++ b ∷ more) t.second (both ∙ ap (λ (w : List ℕ). w ++ t.second) (sym same.1))) in
-        s.longest b rest more e (subst (L v) tail (subst (λ (u : V). L u t.second) (sym same.0) t.is_second))
-    }
+        s.longest b rest more e (subst (L v) tail (subst (λ (u : V). L u t.second) (sym same.0) t.is_second));
+  }
 
 -- the same words stop at the same place
 pub stop_same : (L M : List ℕ → Type 0) (bytes : List ℕ) (at k : ℕ) → ((w : List ℕ) → L w → M w) → ((w : List ℕ) → M w → L w) → Stops L bytes at k → Stops M bytes at k
 stop_same L M bytes at k to from s = record {
-    front = s.front;
-    split = s.split;
-    ahead = s.ahead;
-    within = s.within;
-    begins = (s.begins.0, to (s.front ++ s.begins.0) s.begins.1);
-    never = λ word rest m e. s.never word rest (from word m) e;
-    longest = λ b rest more e m. s.longest b rest more e (from (s.front ++ b ∷ more) m)
-  }
+  front = s.front;
+  split = s.split;
+  ahead = s.ahead;
+  within = s.within;
+  begins = (s.begins.0, to (s.front ++ s.begins.0) s.begins.1);
+  never = λ word rest m e. s.never word rest (from word m) e;
+  longest = λ b rest more e m. s.longest b rest more e (from (s.front ++ b ∷ more) m);
+}
 
 -- where no byte goes on, reading stops at once
 pub stop_here : (L : List ℕ → Type 0) (bytes : List ℕ) (at : ℕ) → at ≤ length bytes → (w : List ℕ) → L w → (L [] → ⊥) → ((b : ℕ) (rest more : List ℕ) → drop at bytes ≡ b ∷ rest → L (b ∷ more) → ⊥) → Stops L bytes at at
 stop_here L bytes at within w l some none = record {
-    front = [];
-    split = refl;
-    ahead = omega arith;
-    within = within;
-    begins = (w, l);
-    never = never;
-    longest = none
-  }
+  front = [];
+  split = refl;
+  ahead = omega arith;
+  within = within;
+  begins = (w, l);
+  never = never;
+  longest = none;
+}
   where
     never : (word rest : List ℕ) → L word → drop at bytes ≡ word ++ rest → ⊥
     never [] rest l e = some l
@@ -96,14 +96,14 @@ stop_here L bytes at within w l some none = record {
 -- behind a byte, reading stops where what may follow stops
 pub stop_byte : (L M : List ℕ → Type 0) (bytes : List ℕ) (at k b : ℕ) → drop at bytes ≡ b ∷ drop (at + 1) bytes → ((w : List ℕ) → M w → L (b ∷ w)) → ((w : List ℕ) → L (b ∷ w) → M w) → (L [] → ⊥) → Stops M bytes (at + 1) k → Stops L bytes at k
 stop_byte L M bytes at k b cut to from some s = record {
-    front = b ∷ s.front;
-    split = cut ∙ ap (λ (w : List ℕ). b ∷ w) s.split;
-    ahead = let e = s.ahead in omega arith;
-    within = s.within;
-    begins = (s.begins.0, to (s.front ++ s.begins.0) s.begins.1);
-    never = never;
-    longest = λ c rest more e l. s.longest c rest more e (from (s.front ++ c ∷ more) l)
-  }
+  front = b ∷ s.front;
+  split = cut ∙ ap (λ (w : List ℕ). b ∷ w) s.split;
+  ahead = let e = s.ahead in omega arith;
+  within = s.within;
+  begins = (s.begins.0, to (s.front ++ s.begins.0) s.begins.1);
+  never = never;
+  longest = λ c rest more e l. s.longest c rest more e (from (s.front ++ c ∷ more) l);
+}
   where
     never : (word rest : List ℕ) → L word → drop at bytes ≡ word ++ rest → ⊥
     never [] rest l e = some l
@@ -114,12 +114,12 @@ stop_byte L M bytes at k b cut to from some s = record {
 -- two words one after the other
 pub read_both : {V U W : Type 0} (F : V → List ℕ → Type 0) (G : U → List ℕ → Type 0) (H : W → List ℕ → Type 0) (bytes : List ℕ) (at mid next : ℕ) (v : V) (u : U) (w : W) → ((a b : List ℕ) → F v a → G u b → H w (a ++ b)) → Reads F bytes at v mid → Reads G bytes mid u next → Reads H bytes at w next
 read_both F G H bytes at mid next v u w join r s = record {
-    word = r.word ++ s.word;
-    form = join r.word s.word r.form s.form;
-    split = r.split ∙ ap (λ (l : List ℕ). r.word ++ l) s.split ∙ sym (append_assoc r.word s.word (drop next bytes));
-    ahead = let e = length-append r.word s.word in let a = r.ahead in let b = s.ahead in omega arith;
-    within = s.within
-  }
+  word = r.word ++ s.word;
+  form = join r.word s.word r.form s.form;
+  split = r.split ∙ ap (λ (l : List ℕ). r.word ++ l) s.split ∙ sym (append_assoc r.word s.word (drop next bytes));
+  ahead = let e = length-append r.word s.word in let a = r.ahead in let b = s.ahead in omega arith;
+  within = s.within;
+}
 
 -- a refusal of a part is one of the whole
 pub refused_more : (L M : List ℕ → Type 0) (bytes : List ℕ) (at behind : ℕ) (e : DecodeError) → ((k : ℕ) → Stops M bytes behind k → Stops L bytes at k) → Refused M bytes behind e → Refused L bytes at e
@@ -159,6 +159,11 @@ module _ {V U : Type 0} (F : V → List ℕ → Type 0) (G : V → U → List �
   pub pair_first : (bytes : List ℕ) (at : ℕ) (e : DecodeError) → ((v : V) → (w : List ℕ) × Words (G v) w) → Refused (Words F) bytes at e → Refused (Words (Pair F G)) bytes at e
   pair_first bytes at e goes_on r =
       refused_more (Words (Pair F G)) (Then F (λ v. Words (G v))) bytes at at e (λ k s. stop_same (Then F (λ v. Words (G v))) (Words (Pair F G)) bytes at k pair_to pair_from s) (then_first F (λ v. Words (G v)) bytes at e (λ v w f. goes_on v) r)
+
+  -- where only some values of the first part go on
+  pub pair_if : (bytes : List ℕ) (at : ℕ) (e : DecodeError) → ((v : V) (w : List ℕ) → F v w → (x : List ℕ) × Words (G v) x) → Refused (Words F) bytes at e → Refused (Words (Pair F G)) bytes at e
+  pair_if bytes at e goes_on r =
+      refused_more (Words (Pair F G)) (Then F (λ v. Words (G v))) bytes at at e (λ k s. stop_same (Then F (λ v. Words (G v))) (Words (Pair F G)) bytes at k pair_to pair_from s) (then_first F (λ v. Words (G v)) bytes at e goes_on r)
 
   pub pair_second : (bytes : List ℕ) (at mid : ℕ) (v : V) (e : DecodeError) → Unique F → Reads F bytes at v mid → Refused (Words (G v)) bytes mid e → Refused (Words (Pair F G)) bytes at e
   pair_second bytes at mid v e one read r =

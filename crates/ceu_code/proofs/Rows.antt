@@ -94,7 +94,7 @@ module _ {V : Type 0} (Valid : V → Type 0) (spell : V → List ℕ) where
         second = t.second;
         is_first = (ap suc t.is_first.0, (p.0, t.is_first.1), ap (λ (l : List ℕ). spell v ++ l) t.is_first.2 ∙ sym (flat_map-cons spell v t.value));
         is_second = t.is_second;
-        joined = e ∙ flat_map-cons spell v vs ∙ ap (λ (l : List ℕ). spell v ++ l) t.joined ∙ sym (append_assoc (spell v) t.first t.second)
+        joined = e ∙ flat_map-cons spell v vs ∙ ap (λ (l : List ℕ). spell v ++ l) t.joined ∙ sym (append_assoc (spell v) t.first t.second);
       }
 
   -- where an item stops behind some that were read, they all do
@@ -113,8 +113,8 @@ module _ {V : Type 0} (Valid : V → Type 0) (spell : V → List ℕ) where
   pub item_read : (bytes : List ℕ) (at mid next i : ℕ) (vs : List V) (v : V) → Reads (Many i) bytes at vs mid → Reads F bytes mid v next → Reads (Many (i + 1)) bytes at (vs ++ v ∷ []) next
   item_read bytes at mid next i vs v r s =
       read_both (Many i) F (Many (i + 1)) bytes at mid next vs v (vs ++ v ∷ [])
-        (λ a b f g. (length-append vs (v ∷ []) ∙ (let l = f.0 in omega arith), all_append vs (v ∷ []) f.1 (g.0, tt), ap (λ (l : List ℕ). l ++ b) f.2 ∙ ap (λ (l : List ℕ). flat_map spell vs ++ l) (g.1 ∙ sym (append-nil (spell v))) ∙ sym (flat_map-append spell vs (v ∷ []))))
-        r s
+      (λ a b f g. (length-append vs (v ∷ []) ∙ (let l = f.0 in omega arith), all_append vs (v ∷ []) f.1 (g.0, tt), ap (λ (l : List ℕ). l ++ b) f.2 ∙ ap (λ (l : List ℕ). flat_map spell vs ++ l) (g.1 ∙ sym (append-nil (spell v))) ∙ sym (flat_map-append spell vs (v ∷ []))))
+      r s
 
   -- ---- a count and so many items
 

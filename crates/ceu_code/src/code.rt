@@ -14,7 +14,11 @@ use ceu_base::Ty;
 fn row_of(opcode: u8) -> Option<Row>
     ensures { result ≡ table.row_of opcode }
 {
-    if opcode < 39 { TABLE[opcode as usize] } else { None }
+    if opcode < 39 {
+        TABLE[opcode as usize]
+    } else {
+        None
+    }
 }
 
 /// How many bytes an operand has.
@@ -79,7 +83,10 @@ fn negative_cells(ty: Ty) -> Span
         Ty::S16 => 18446744073709518848,
         Ty::S32 => 18446744071562067968,
         Ty::S64 => 9223372036854775808,
-        Ty::None | Ty::Bool | Ty::U8 | Ty::U16 | Ty::U32 | Ty::U64 => return Span { from: 1, to: 0 },
+        Ty::None | Ty::Bool | Ty::U8 | Ty::U16 | Ty::U32 | Ty::U64 => return Span {
+            from: 1,
+            to: 0,
+        },
     };
     Span {
         from,
@@ -93,7 +100,8 @@ fn is_constant(kind: Operand) -> bool
     match kind {
         Operand::Constant => true,
         Operand::Nothing | Operand::Half | Operand::Word | Operand::Typed => false,
-        Operand::AnyType | Operand::Prefix | Operand::Binary | Operand::Unit | Operand::Open => false,
+        Operand::AnyType | Operand::Prefix | Operand::Binary | Operand::Unit | Operand::Open =>
+            false,
     }
 }
 
@@ -178,7 +186,11 @@ fn read_behind(bytes: &[u8], at: usize, left: u16, row: &Row) -> Result<usize, D
     if operands_width(row) >= left {
         return Err(DecodeError::Bad(at));
     }
-    read_operands(bytes, at + 1, &[row.first, row.second, row.third, row.fourth, row.fifth])
+    read_operands(
+        bytes,
+        at + 1,
+        &[row.first, row.second, row.third, row.fourth, row.fifth],
+    )
 }
 
 /// Reads whole instructions of so many bytes in all.

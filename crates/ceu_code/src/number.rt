@@ -17,7 +17,11 @@ fn narrowed(span: Span, byte: u8) -> Span
     if span.to < byte {
         return EMPTY;
     }
-    let from = if span.from <= byte { 0 } else { (span.from - byte - 1) / 256 + 1 };
+    let from = if span.from <= byte {
+        0
+    } else {
+        (span.from - byte - 1) / 256 + 1
+    };
     Span {
         from,
         to: (span.to - byte) / 256,
@@ -31,7 +35,13 @@ fn have_numbers(low: Span, high: Span) -> bool
 }
 
 /// Reads a number of so many bytes that lies in one of two spans. The first byte with which no such number begins is refused.
-pub fn read_in_spans(bytes: &[u8], at: usize, width: u8, low: Span, high: Span) -> Result<(u64, usize), DecodeError>
+pub fn read_in_spans(
+    bytes: &[u8],
+    at: usize,
+    width: u8,
+    low: Span,
+    high: Span,
+) -> Result<(u64, usize), DecodeError>
     requires inside { at ≤ length bytes.now }
     requires some { HasNumbers low ⊎ HasNumbers high }
     requires low_fits { low.to < 256 ^ width }
@@ -55,18 +65,38 @@ pub fn read_in_spans(bytes: &[u8], at: usize, width: u8, low: Span, high: Span) 
     Ok((u64::from(byte) + 256 * rest, next))
 }
 
-pub fn read_between(bytes: &[u8], at: usize, width: u8, least: u64, greatest: u64) -> Result<(u64, usize), DecodeError>
+pub fn read_between(
+    bytes: &[u8],
+    at: usize,
+    width: u8,
+    least: u64,
+    greatest: u64,
+) -> Result<(u64, usize), DecodeError>
     requires inside { at ≤ length bytes.now }
     requires some { least ≤ greatest }
     requires fits { greatest < 256 ^ width }
     ensures ok { IfOk result (λ r. Reads (IsBetween width least greatest) bytes.now at r.0 r.1) }
     ensures refused { IfErr result (λ e. Refused (Words (IsBetween width least greatest)) bytes.now at e) }
 {
-    read_in_spans(bytes, at, width, Span { from: least, to: greatest }, EMPTY)
+    read_in_spans(
+        bytes,
+        at,
+        width,
+        Span {
+            from: least,
+            to: greatest,
+        },
+        EMPTY,
+    )
 }
 
 /// Reads a byte from one number to another.
-pub fn read_byte(bytes: &[u8], at: usize, least: u8, greatest: u8) -> Result<(u8, usize), DecodeError>
+pub fn read_byte(
+    bytes: &[u8],
+    at: usize,
+    least: u8,
+    greatest: u8,
+) -> Result<(u8, usize), DecodeError>
     requires inside { at ≤ length bytes.now }
     requires some { least ≤ greatest }
     ensures ok { IfOk result (λ r. Reads (IsBetween 1 least greatest) bytes.now at r.0 r.1) }
@@ -77,7 +107,12 @@ pub fn read_byte(bytes: &[u8], at: usize, least: u8, greatest: u8) -> Result<(u8
 }
 
 /// Reads two bytes.
-pub fn read_half(bytes: &[u8], at: usize, least: u16, greatest: u16) -> Result<(u16, usize), DecodeError>
+pub fn read_half(
+    bytes: &[u8],
+    at: usize,
+    least: u16,
+    greatest: u16,
+) -> Result<(u16, usize), DecodeError>
     requires inside { at ≤ length bytes.now }
     requires some { least ≤ greatest }
     ensures ok { IfOk result (λ r. Reads (IsBetween 2 least greatest) bytes.now at r.0 r.1) }

@@ -88,7 +88,12 @@ impl Parse for Pos {
 }
 
 /// Reads so many items.
-pub fn read_items<T: Parse + Drop>(alloc: Global, bytes: &[u8], at: usize, count: u16) -> Result<(Seq<T>, usize), DecodeError>
+pub fn read_items<T: Parse + Drop>(
+    alloc: Global,
+    bytes: &[u8],
+    at: usize,
+    count: u16,
+) -> Result<(Seq<T>, usize), DecodeError>
     requires inside { at ≤ length bytes.now }
     requires unique { Unique (Spelled T.valid T.spelled) }
     ensures ok { IfOk result (λ r. Reads (Items T.valid T.spelled count) bytes.now at r.0 r.1) }
@@ -105,7 +110,12 @@ pub fn read_items<T: Parse + Drop>(alloc: Global, bytes: &[u8], at: usize, count
 }
 
 /// Reads a count, and so many items.
-pub fn read_counted<T: Parse + Drop>(alloc: Global, bytes: &[u8], at: usize, least: u16) -> Result<(Seq<T>, usize), DecodeError>
+pub fn read_counted<T: Parse + Drop>(
+    alloc: Global,
+    bytes: &[u8],
+    at: usize,
+    least: u16,
+) -> Result<(Seq<T>, usize), DecodeError>
     requires inside { at ≤ length bytes.now }
     requires unique { Unique (Spelled T.valid T.spelled) }
     requires some { (v : T) × T.valid v }
@@ -130,7 +140,12 @@ impl Parse for CodeRow {
         let (gates, at_count) = read_half(bytes, at_gates, 0, 65535)?;
         let (count, at_params) = read_byte(bytes, at_count, 0, 255)?;
         let (params, next) = read_items(alloc, bytes, at_params, u16::from(count))?;
-        let row = CodeRow { entry, frame, gates, params };
+        let row = CodeRow {
+            entry,
+            frame,
+            gates,
+            params,
+        };
         Ok((row, next))
     }
 }

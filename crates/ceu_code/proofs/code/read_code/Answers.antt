@@ -19,5 +19,5 @@ loop-left-preserved c =
     let fits : length r.word ≤ c.loop-left.left = r.form.0.1 in
     record {
       read = code_read_on c.args.bytes.now c.args.at c.loop-left.next c.in_ok-behind.behind c.loop-left.left c.loop-left.invariant.read r;
-      total = let t = c.loop-left.invariant.total in omega arith
+      total = let t = c.loop-left.invariant.total in omega arith;
     }

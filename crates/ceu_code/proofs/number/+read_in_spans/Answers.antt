@@ -36,4 +36,4 @@ returns-clause-ok t c =
     let inside : c.args.at < length c.args.bytes.now = omega arith in
     let byte : c.from.result ≡ get_or c.args.bytes.now c.args.at 0 = c.from.ensures in
     subst (λ (b : ℕ). Reads (IsIn c.args.width c.args.low c.args.high) c.args.bytes.now c.args.at (b + 256 * c.in_ok-rest.rest) c.in_ok-rest.next) (sym byte)
-      (reads_here c.args.width c.args.low c.args.high c.args.bytes.now c.args.at (get_or c.args.bytes.now c.args.at 0) c.narrowed-low_rest.result c.narrowed-high_rest.result (omega arith) (cut_at c.args.bytes.now c.args.at inside) (omega (arith, c.type_inv.bytes c.args.at)) c.narrowed-low_rest.ensures.value c.narrowed-high_rest.ensures.value c.in_ok-rest.rest c.in_ok-rest.next c.in_ok-rest.ensures.ok)
+    (reads_here c.args.width c.args.low c.args.high c.args.bytes.now c.args.at (get_or c.args.bytes.now c.args.at 0) c.narrowed-low_rest.result c.narrowed-high_rest.result (omega arith) (cut_at c.args.bytes.now c.args.at inside) (omega (arith, c.type_inv.bytes c.args.at)) c.narrowed-low_rest.ensures.value c.narrowed-high_rest.ensures.value c.in_ok-rest.rest c.in_ok-rest.next c.in_ok-rest.ensures.ok)

@@ -7,7 +7,7 @@ use Rattle.ceu_code.proofs.row.CodeRowParse.read.Goals as goal
 pub returns-in_err-entry-clause-refused : goal.returns-in_err-entry-clause-refused
 returns-in_err-entry-clause-refused c =
     let p = err_from_is_err_and c.from_residual.result c.from_residual.ensures.1 in
-    rw (p.1, p.2) (row_refused c.args.bytes.now c.args.at c.in_err-entry.field-0.0 (refused_entry c.args.bytes.now c.in_err-entry.field-0.0 c.args.at  c.in_err-entry.ensures.refused))
+    rw (p.1, p.2) (row_refused c.args.bytes.now c.args.at c.in_err-entry.field-0.0 (refused_entry c.args.bytes.now c.in_err-entry.field-0.0 c.args.at c.in_err-entry.ensures.refused))
 
 pub returns-in_err-frame-clause-refused : goal.returns-in_err-frame-clause-refused
 returns-in_err-frame-clause-refused c =

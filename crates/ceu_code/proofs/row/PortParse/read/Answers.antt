@@ -32,4 +32,4 @@ returns-clause-ok c =
     let ty = c.type_of-ty.result in
     let named : Reads (IsNameOf (c.in_ok-length.length - 1)) c.args.bytes.now c.in_ok-length.at_name name c.in_ok-next.next = subst (λ (n : List ℕ). Reads (IsNameOf (c.in_ok-length.length - 1)) c.args.bytes.now c.in_ok-length.at_name n c.in_ok-next.next) (sym c.in_ok-name.ensures) c.in_ok-next.ensures.ok in
     subst (λ (t : Ty). Reads (Spelled IsPort port) c.args.bytes.now c.args.at (record { ty = t; name = name }) c.in_ok-next.next) (sym c.type_of-ty.ensures)
-      (port_read c.args.bytes.now c.args.at c.in_ok-number.at_length c.in_ok-length.at_name c.in_ok-next.next c.in_ok-number.number c.in_ok-length.length name c.in_ok-number.ensures.ok c.in_ok-length.ensures.ok named)
+    (port_read c.args.bytes.now c.args.at c.in_ok-number.at_length c.in_ok-length.at_name c.in_ok-next.next c.in_ok-number.number c.in_ok-length.length name c.in_ok-number.ensures.ok c.in_ok-length.ensures.ok named)

@@ -15,4 +15,4 @@ returns-in_err-number-clause-refused c =
 pub returns-clause-ok : goal.returns-clause-ok
 returns-clause-ok c =
     subst (λ (t : Ty). Reads (Spelled IsTyped ty_bytes) c.args.bytes.now c.args.at t c.in_ok-number.next) (sym c.type_of.ensures)
-      (reads_as (IsBetween 1 1 9) (Spelled IsTyped ty_bytes) c.args.bytes.now c.args.at c.in_ok-number.next c.in_ok-number.number (type_at c.in_ok-number.number) (type_to c.in_ok-number.number) c.in_ok-number.ensures.ok)
+    (reads_as (IsBetween 1 1 9) (Spelled IsTyped ty_bytes) c.args.bytes.now c.args.at c.in_ok-number.next c.in_ok-number.number (type_at c.in_ok-number.number) (type_to c.in_ok-number.number) c.in_ok-number.ensures.ok)
