@@ -1,3 +1,11 @@
 pub mod Writing
 pub mod Reading
 pub mod Numbers
+pub mod Rows
+pub mod Parsed
+pub mod Ports
+pub mod Codes
+pub mod Heads
+pub mod Amounts
+pub mod Listed
+pub mod Images

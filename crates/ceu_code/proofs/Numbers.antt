@@ -7,8 +7,9 @@ use Rattle.std.proofs.lemmas.Nat.{div-mul-add}
 use Rattle.std.proofs.lemmas.Bool.{cases_lt}
 use Rattle.ceu_code.specs.declared.span.Span.{Span}
 use Rattle.ceu_code.specs.Table.{low_first, InSpan, InEither, empty_span}
-use Rattle.ceu_code.specs.Reading.{Reads, Words, Stops, Unique, IsIn, IsBetween, narrowed, HasNumbers}
-use Rattle.ceu_code.proofs.Reading.{same_head, same_tail, stop_here, stop_byte}
+use Rattle.ceu_code.specs.declared.decoding.DecodeError.{DecodeError}
+use Rattle.ceu_code.specs.Reading.{Reads, Words, Stops, Refused, Unique, IsIn, IsBetween, narrowed, HasNumbers}
+use Rattle.ceu_code.proofs.Reading.{same_head, same_tail, stop_here, stop_byte, stop_same, refused_more}
 
 split_256 : (n : ℕ) → 256 * (n / 256) + n % 256 ≡ n
 split_256 n = div-add-mod n 256
@@ -73,21 +74,21 @@ pub number_refuses : (k : ℕ) (low high : Span) (bytes : List ℕ) (at b : ℕ)
 number_refuses k low high bytes at b inside cut some p q =
     let word = some_number (suc k) low high some in
     stop_here (Words (IsIn (suc k) low high)) bytes at (omega arith) word.0 word.1 (no_empty_word k low high) (λ c rest more e l.
-      let same : c ≡ b = same_head c b rest (drop (at + 1) bytes) (sym e ∙ cut) in
-      let m = word_from k b low high more (subst (λ (n : ℕ). Words (IsIn (suc k) low high) (n ∷ more)) same l) in
-      no_numbers (narrowed low b) (narrowed high b) m.0 p q m.1.0)
+    let same : c ≡ b = same_head c b rest (drop (at + 1) bytes) (sym e ∙ cut) in
+    let m = word_from k b low high more (subst (λ (n : ℕ). Words (IsIn (suc k) low high) (n ∷ more)) same l) in
+    no_numbers (narrowed low b) (narrowed high b) m.0 p q m.1.0)
 
 pub number_goes_on : (k : ℕ) (low high : Span) (bytes : List ℕ) (at b stop : ℕ) → b < 256 → drop at bytes ≡ b ∷ drop (at + 1) bytes → Stops (Words (IsIn k (narrowed low b) (narrowed high b))) bytes (at + 1) stop → Stops (Words (IsIn (suc k) low high)) bytes at stop
 number_goes_on k low high bytes at b stop small cut s = stop_byte (Words (IsIn (suc k) low high)) (Words (IsIn k (narrowed low b) (narrowed high b))) bytes at stop b cut (word_to k b low high small) (word_from k b low high) (no_empty_word k low high) s
 
 pub number_read : (k : ℕ) (low high : Span) (bytes : List ℕ) (at b m next : ℕ) → b < 256 → drop at bytes ≡ b ∷ drop (at + 1) bytes → Reads (IsIn k (narrowed low b) (narrowed high b)) bytes (at + 1) m next → Reads (IsIn (suc k) low high) bytes at (b + 256 * m) next
 number_read k low high bytes at b m next small cut r = record {
-    word = b ∷ r.word;
-    form = (either_to low high b m r.form.0, ap (λ (l : List ℕ). b ∷ l) r.form.1 ∙ sym (low_first_byte k b m small));
-    split = cut ∙ ap (λ (w : List ℕ). b ∷ w) r.split;
-    ahead = let e = r.ahead in omega arith;
-    within = r.within
-  }
+  word = b ∷ r.word;
+  form = (either_to low high b m r.form.0, ap (λ (l : List ℕ). b ∷ l) r.form.1 ∙ sym (low_first_byte k b m small));
+  split = cut ∙ ap (λ (w : List ℕ). b ∷ w) r.split;
+  ahead = let e = r.ahead in omega arith;
+  within = r.within;
+}
 
 zero_in : (low high : Span) → low.to < 1 → high.to < 1 → HasNumbers low ⊎ HasNumbers high → InEither low high 0
 zero_in low high p q (inl h) = inl (let k : low.from ≤ low.to = h in (omega arith, omega arith))
@@ -96,12 +97,12 @@ zero_in low high p q (inr h) = inr (let k : high.from ≤ high.to = h in (omega 
 pub nothing_read : (low high : Span) (bytes : List ℕ) (at : ℕ) → at ≤ length bytes → low.to < 1 → high.to < 1 → HasNumbers low ⊎ HasNumbers high → Reads (IsIn 0 low high) bytes at 0 at
 unfolding low_first
 nothing_read low high bytes at inside p q some = record {
-    word = [];
-    form = (zero_in low high p q some, refl);
-    split = refl;
-    ahead = omega arith;
-    within = inside
-  }
+  word = [];
+  form = (zero_in low high p q some, refl);
+  split = refl;
+  ahead = omega arith;
+  within = inside;
+}
 
 -- ---- a number has one word, and no word begins another's
 
@@ -126,19 +127,19 @@ module _ (width : ℕ) (low high : Span) (bytes : List ℕ) (at b : ℕ) (low_re
   pub refuses_here : at < length bytes → HasNumbers low ⊎ HasNumbers high → ((HasNumbers low_rest ⊎ HasNumbers high_rest) → ⊥) → Stops (Words (IsIn width low high)) bytes at at
   refuses_here inside some none =
       subst (λ (k : ℕ). Stops (Words (IsIn k low high)) bytes at at) k_is
-        (number_refuses (width - 1) low high bytes at b inside cut some (λ h. none (inl (subst HasNumbers (sym low_is) h))) (λ h. none (inr (subst HasNumbers (sym high_is) h))))
+      (number_refuses (width - 1) low high bytes at b inside cut some (λ h. none (inl (subst HasNumbers (sym low_is) h))) (λ h. none (inr (subst HasNumbers (sym high_is) h))))
 
   pub refuses_behind : (stop : ℕ) → Stops (Words (IsIn (width - 1) low_rest high_rest)) bytes (at + 1) stop → Stops (Words (IsIn width low high)) bytes at stop
   refuses_behind stop s =
       subst (λ (k : ℕ). Stops (Words (IsIn k low high)) bytes at stop) k_is
-        (number_goes_on (width - 1) low high bytes at b stop small cut
-          (subst (λ (x : Span). Stops (Words (IsIn (width - 1) (narrowed low b) x)) bytes (at + 1) stop) high_is (subst (λ (x : Span). Stops (Words (IsIn (width - 1) x high_rest)) bytes (at + 1) stop) low_is s)))
+      (number_goes_on (width - 1) low high bytes at b stop small cut
+      (subst (λ (x : Span). Stops (Words (IsIn (width - 1) (narrowed low b) x)) bytes (at + 1) stop) high_is (subst (λ (x : Span). Stops (Words (IsIn (width - 1) x high_rest)) bytes (at + 1) stop) low_is s)))
 
   pub reads_here : (m next : ℕ) → Reads (IsIn (width - 1) low_rest high_rest) bytes (at + 1) m next → Reads (IsIn width low high) bytes at (b + 256 * m) next
   reads_here m next r =
       subst (λ (k : ℕ). Reads (IsIn k low high) bytes at (b + 256 * m) next) k_is
-        (number_read (width - 1) low high bytes at b m next small cut
-          (subst (λ (x : Span). Reads (IsIn (width - 1) (narrowed low b) x) bytes (at + 1) m next) high_is (subst (λ (x : Span). Reads (IsIn (width - 1) x high_rest) bytes (at + 1) m next) low_is r)))
+      (number_read (width - 1) low high bytes at b m next small cut
+      (subst (λ (x : Span). Reads (IsIn (width - 1) (narrowed low b) x) bytes (at + 1) m next) high_is (subst (λ (x : Span). Reads (IsIn (width - 1) x high_rest) bytes (at + 1) m next) low_is r)))
 
   pub bound_left : low.to < 256 ^ width → 256 * low_rest.to ≤ low.to → low_rest.to < 256 ^ (width - 1)
   bound_left fits less = let power = ap (λ (k : ℕ). 256 ^ k) (sym k_is) ∙ pow-succ' 256 (width - 1) in omega arith
@@ -155,3 +156,21 @@ reads_nothing width low high bytes at none inside p q some =
 -- the first byte and what is behind it
 pub cut_at : (bytes : List ℕ) (at : ℕ) → at < length bytes → drop at bytes ≡ get_or bytes at 0 ∷ drop (at + 1) bytes
 cut_at bytes at inside = rw (add-one, drop-cons bytes at 0)
+
+-- a number of one span
+pub one_span_to : (k least greatest : ℕ) (empty : Span) → empty.to < empty.from → (n : ℕ) (w : List ℕ) → IsIn k (record { from = least; to = greatest }) empty n w → IsBetween k least greatest n w
+one_span_to k least greatest empty none n w (inl h, e) = (h, e)
+one_span_to k least greatest empty none n w (inr h, e) = let l : empty.from ≤ n = h.0 in let r : n ≤ empty.to = h.1 in absurd (omega arith)
+
+pub one_span_from : (k least greatest : ℕ) (empty : Span) (n : ℕ) (w : List ℕ) → IsBetween k least greatest n w → IsIn k (record { from = least; to = greatest }) empty n w
+one_span_from k least greatest empty n w h = (inl h.0, h.1)
+
+pub one_span_read : (k least greatest : ℕ) (empty : Span) → empty.to < empty.from → (bytes : List ℕ) (at n next : ℕ) → Reads (IsIn k (record { from = least; to = greatest }) empty) bytes at n next → Reads (IsBetween k least greatest) bytes at n next
+one_span_read k least greatest empty none bytes at n next r = record { word = r.word; form = one_span_to k least greatest empty none n r.word r.form; split = r.split; ahead = r.ahead; within = r.within }
+
+pub one_span_refused : (k least greatest : ℕ) (empty : Span) → empty.to < empty.from → (bytes : List ℕ) (at : ℕ) (e : DecodeError) → Refused (Words (IsIn k (record { from = least; to = greatest }) empty)) bytes at e → Refused (Words (IsBetween k least greatest)) bytes at e
+one_span_refused k least greatest empty none bytes at e =
+    refused_more (Words (IsBetween k least greatest)) (Words (IsIn k (record { from = least; to = greatest }) empty)) bytes at at e
+    (λ stop s. stop_same (Words (IsIn k (record { from = least; to = greatest }) empty)) (Words (IsBetween k least greatest)) bytes at stop
+    (λ w h. (h.0, one_span_to k least greatest empty none h.0 w h.1))
+    (λ w h. (h.0, one_span_from k least greatest empty h.0 w h.1)) s)

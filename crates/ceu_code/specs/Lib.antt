@@ -2,3 +2,4 @@ pub mod Table
 pub mod Spelling
 pub mod Instructions
 pub mod Reading
+pub mod Decoding

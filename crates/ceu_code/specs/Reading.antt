@@ -1,10 +1,11 @@
 -- What a reader of bytes answers: what it read and where it ended, or the first place at which nothing that it reads goes on so.
-use Rattle.std.specs.Prelude.{◌≡◌, ℕ, ◌+◌, ◌*◌, ◌^◌, ◌-◌, ◌/◌, ◌≤◌, nat_lt, nat_le, if◌then◌else◌, List, [], ◌∷◌, ◌++◌, length, drop}
+use Rattle.std.specs.Prelude.{◌≡◌, ℕ, ◌+◌, ◌*◌, ◌^◌, ◌-◌, ◌/◌, ◌≤◌, nat_lt, nat_le, if◌then◌else◌, IsTrue, List, [], ◌∷◌, ◌++◌, length, drop}
 use Rattle.std.specs.List.{AllByRecursion, flat_map}
 use Rattle.ceu_code.specs.declared.decoding.DecodeError.{DecodeError}
 use Rattle.ceu_code.specs.declared.decoding.DecodeError.TheVariants.{Bad, Memory}
 use Rattle.ceu_code.specs.declared.span.Span.{Span}
-use Rattle.ceu_code.specs.Table.{low_first, InEither, empty_span}
+use Rattle.ceu_code.specs.Table.{low_first, InEither, empty_span, IsInstruction, IsCode}
+use Rattle.ceu_code.specs.Spelling.{counted, is_name_byte, IsExternalName}
 
 -- behind the first `at` bytes stands a word of the form F, a value's, up to `next`
 pub record Reads {V : Type 0} (F : V → List ℕ → Type 0) (bytes : List ℕ) (at : ℕ) (v : V) (next : ℕ) : Type 0 where
@@ -70,3 +71,25 @@ narrowed span b = if nat_lt span.to b then empty_span else record { from = if na
 
 abbrev pub HasNumbers : Span → Type 0
 HasNumbers span = span.from ≤ span.to
+
+-- the count of the items, at least so many, and then each of them
+abbrev pub Counted : {V : Type 0} → (V → Type 0) → (V → List ℕ) → ℕ → List V → List ℕ → Type 0
+Counted Valid spell least items word = ((least ≤ length items) × (length items ≤ 65535)) × (AllByRecursion Valid items × (word ≡ counted spell items))
+
+-- so many capitals, digits and underscores; and so many behind a capital
+abbrev pub IsNameRest : ℕ → List ℕ → List ℕ → Type 0
+IsNameRest n name word = (length name ≡ n) × AllByRecursion (λ b. IsTrue (is_name_byte b)) name × (word ≡ name)
+
+abbrev pub IsNameOf : ℕ → List ℕ → List ℕ → Type 0
+IsNameOf n name word = (length name ≡ n + 1) × IsExternalName name × (word ≡ name)
+
+-- a word of L, which is its own value
+abbrev pub Word : (List ℕ → Type 0) → List ℕ → List ℕ → Type 0
+Word L value word = L word × (word ≡ value)
+
+-- an instruction of at most n bytes, and whole instructions of n bytes in all
+abbrev pub IsInstructionIn : ℕ → List ℕ → Type 0
+IsInstructionIn n word = IsInstruction word × (length word ≤ n)
+
+abbrev pub IsCodeOf : ℕ → List ℕ → Type 0
+IsCodeOf n word = IsCode word × (length word ≡ n)

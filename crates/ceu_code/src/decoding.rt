@@ -1,7 +1,7 @@
 ghost use Rattle.std.specs.Prelude.{◌≡◌};
 ghost use Rattle.ceu_code.specs.declared.decoding.DecodeError.TheVariants.{Memory};
 
-use std::alloc::AllocFailed;
+use std::alloc::AllocError;
 use thiserror::Error;
 
 /// Why bytes aren't decoded: they are no image, and the number is the length of their longest beginning that some image has; or
@@ -14,10 +14,10 @@ pub enum DecodeError {
     Memory,
 }
 
-impl<T: Drop> From<AllocFailed<T>> for DecodeError {
+impl From<AllocError> for DecodeError {
     ghost from_gives = { λ _ e. e ≡ Memory };
 
-    fn from(_: AllocFailed<T>) -> Self {
+    fn from(_: AllocError) -> Self {
         DecodeError::Memory
     }
 }

@@ -3,7 +3,7 @@ use Rattle.std.proofs.lemmas.Result.{err_from_is_err_and}
 use Rattle.ceu_code.specs.Reading.{Reads, Stops, Words, IsIn}
 use Rattle.ceu_code.proofs.Reading.{refused_more}
 use Rattle.ceu_code.proofs.Numbers.{reads_nothing, number_ends, refuses_here, refuses_behind, reads_here, bound_left, bound_right, cut_at}
-use Rattle.ceu_code.proofs.number.+read_number.Goals as goal
+use Rattle.ceu_code.proofs.number.+read_in_spans.Goals as goal
 
 pub returns-then-width-eq0-clause-ok : goal.returns-then-width-eq0-clause-ok
 returns-then-width-eq0-clause-ok t c = reads_nothing c.args.width c.args.low c.args.high c.args.bytes.now c.args.at c.if-width-eq0.true c.requires.inside c.requires.low_fits c.requires.high_fits c.requires.some
@@ -18,8 +18,8 @@ returns-then-not-have_numbers-clause-refused t c =
     let inside : c.args.at < length c.args.bytes.now = omega arith in
     refuses_here c.args.width c.args.low c.args.high c.args.bytes.now c.args.at (get_or c.args.bytes.now c.args.at 0) c.narrowed-low_rest.result c.narrowed-high_rest.result (omega arith) (cut_at c.args.bytes.now c.args.at inside) (omega (arith, c.type_inv.bytes c.args.at)) c.narrowed-low_rest.ensures.value c.narrowed-high_rest.ensures.value inside c.requires.some (grind arith)
 
-pub read_number-requires : goal.read_number-requires
-read_number-requires t c =
+pub read_in_spans-requires : goal.read_in_spans-requires
+read_in_spans-requires t c =
     let inside : c.args.at < length c.args.bytes.now = omega arith in
     let low_fits = bound_left c.args.width c.args.low c.args.high c.args.bytes.now c.args.at (get_or c.args.bytes.now c.args.at 0) c.narrowed-low_rest.result c.narrowed-high_rest.result (omega arith) (cut_at c.args.bytes.now c.args.at inside) (omega (arith, c.type_inv.bytes c.args.at)) c.narrowed-low_rest.ensures.value c.narrowed-high_rest.ensures.value c.requires.low_fits c.narrowed-low_rest.ensures.small in
     let high_fits = bound_right c.args.width c.args.low c.args.high c.args.bytes.now c.args.at (get_or c.args.bytes.now c.args.at 0) c.narrowed-low_rest.result c.narrowed-high_rest.result (omega arith) (cut_at c.args.bytes.now c.args.at inside) (omega (arith, c.type_inv.bytes c.args.at)) c.narrowed-low_rest.ensures.value c.narrowed-high_rest.ensures.value c.requires.high_fits c.narrowed-high_rest.ensures.small in
@@ -36,4 +36,4 @@ returns-clause-ok t c =
     let inside : c.args.at < length c.args.bytes.now = omega arith in
     let byte : c.from.result ≡ get_or c.args.bytes.now c.args.at 0 = c.from.ensures in
     subst (λ (b : ℕ). Reads (IsIn c.args.width c.args.low c.args.high) c.args.bytes.now c.args.at (b + 256 * c.in_ok-rest.rest) c.in_ok-rest.next) (sym byte)
-      (reads_here c.args.width c.args.low c.args.high c.args.bytes.now c.args.at (get_or c.args.bytes.now c.args.at 0) c.narrowed-low_rest.result c.narrowed-high_rest.result (omega arith) (cut_at c.args.bytes.now c.args.at inside) (omega (arith, c.type_inv.bytes c.args.at)) c.narrowed-low_rest.ensures.value c.narrowed-high_rest.ensures.value c.in_ok-rest.rest c.in_ok-rest.next c.in_ok-rest.ensures.ok)
+    (reads_here c.args.width c.args.low c.args.high c.args.bytes.now c.args.at (get_or c.args.bytes.now c.args.at 0) c.narrowed-low_rest.result c.narrowed-high_rest.result (omega arith) (cut_at c.args.bytes.now c.args.at inside) (omega (arith, c.type_inv.bytes c.args.at)) c.narrowed-low_rest.ensures.value c.narrowed-high_rest.ensures.value c.in_ok-rest.rest c.in_ok-rest.next c.in_ok-rest.ensures.ok)
