@@ -2,3 +2,5 @@ pub mod NeedSums
 pub mod FrameCuts
 pub mod PlaceLaws
 pub mod Walks
+pub mod Each
+pub mod Between

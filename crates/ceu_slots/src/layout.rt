@@ -24,7 +24,7 @@ fn behind(plain: bool, at: u32, size: u32) -> u32
     if plain { at + size } else { at }
 }
 
-fn place_decls(
+pub fn place_decls(
     frames: &[u32],
     at: u32,
     decls: &[KDecl],

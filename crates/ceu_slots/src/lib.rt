@@ -3,6 +3,7 @@
 
 mod layout;
 mod needs;
+mod plans;
 
 pub use layout::SlotPlace;
 pub use needs::slot_need;
