@@ -4,3 +4,5 @@ pub mod PlaceLaws
 pub mod Walks
 pub mod Each
 pub mod Between
+pub mod SlotNumbers
+pub mod Apart
