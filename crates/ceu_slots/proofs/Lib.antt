@@ -6,3 +6,5 @@ pub mod Each
 pub mod Between
 pub mod SlotNumbers
 pub mod Apart
+pub mod Sized
+pub mod Kept
