@@ -80,7 +80,7 @@ module _ (offset size : ℕ → ℕ) where
   first_apart r rs a b e agree later is c =
       let P : ℕ → Type 0 = λ s. r.offset + r.size ≤ offset s in
       let all : Each P (numbers rs) = each_map P (λ (q : SlotPlace). q.slot) rs
-              (each_both Agrees (λ (q : SlotPlace). r.offset + r.size ≤ q.offset) (λ (q : SlotPlace). P q.slot) (λ (q : SlotPlace) (f : Agrees q) (h : r.offset + r.size ≤ q.offset). omega (arith, f.0, h)) rs agree later) in
+      (each_both Agrees (λ (q : SlotPlace). r.offset + r.size ≤ q.offset) (λ (q : SlotPlace). P q.slot) (λ (q : SlotPlace) (f : Agrees q) (h : r.offset + r.size ≤ q.offset). omega (arith, f.0, h)) rs agree later) in
       let at_b : r.offset + r.size ≤ offset b = each_contains P (numbers rs) b all c in
       let o : offset a ≡ r.offset = ap offset (sym is) ∙ e.0 in
       let s : size a ≡ r.size = ap size (sym is) ∙ e.1 in
@@ -158,7 +158,7 @@ module _ (offset size : ℕ → ℕ) where
             let inner = each_right Agrees (turn_places at k) (block_places plain frames next body) agree in
             elim t [
               | inl h ↦ beside_apart (turn_places at k) (loop_slots k) (block_slots body) at next (next + block_need plain frames body) a b (turns_in_turn at k) own (turns_between at k)
-                    (block_inside scope body next ok' inner) ne (turn_numbers at k) h
+                  (block_inside scope body next ok' inner) ne (turn_numbers at k) h
               | inr h ↦ block_apart scope body next ok' inner h
             ]
         stmt_apart sc n (Par' k slot _ bs) at ok agree t =
@@ -168,7 +168,7 @@ module _ (offset size : ℕ → ℕ) where
             let inner = each_right Agrees (byte_places slot at bytes) (blocks_places plain frames (at + bytes) bs) agree in
             elim t [
               | inl h ↦ beside_apart (byte_places slot at bytes) (par_slots k slot (row_length bs)) (blocks_slots bs) at (at + bytes) (at + bytes + bare plain frames bs) a b (bytes_in_turn slot at bytes) own (bytes_between slot at bytes)
-                    (blocks_inside sc bs (at + bytes) ok' inner) ne (par_numbers k slot at (row_length bs)) h
+                  (blocks_inside sc bs (at + bytes) ok' inner) ne (par_numbers k slot at (row_length bs)) h
               | inr h ↦ blocks_apart sc bs (at + bytes) ok' inner h
             ]
         stmt_apart sc n _ at ok agree t = absurd t
@@ -181,7 +181,7 @@ module _ (offset size : ℕ → ℕ) where
             let inner = each_right Agrees (decl_places frames at ds) (nodes_places plain frames next list) agree in
             elim t [
               | inl h ↦ beside_apart (decl_places frames at ds) (decl_slots ds) (list_slots list) at next (next + nodes_need plain frames list) a b (decls_in_turn frames at ds) own (decls_between frames at ds)
-                    (nodes_inside (with_decls ds sc) list next ok' inner) ne (decl_numbers frames at ds) h
+                  (nodes_inside (with_decls ds sc) list next ok' inner) ne (decl_numbers frames at ds) h
               | inr h ↦ nodes_apart (with_decls ds sc) list next ok' inner h
             ]
 
@@ -194,7 +194,7 @@ module _ (offset size : ℕ → ℕ) where
             let next = behind plain at (stmt_need plain frames s) in
             elim t [
               | inl h ↦ stmt_apart sc n s at (both_right (nat_le 1 p.line && nat_le 1 p.col) _ (both_left (nat_le 1 p.line && nat_le 1 p.col && stmt_ok K names sc n s) _ ok))
-                    (each_left Agrees (stmt_places plain frames at s) (nodes_places plain frames next rest) agree) h
+                  (each_left Agrees (stmt_places plain frames at s) (nodes_places plain frames next rest) agree) h
               | inr h ↦ nodes_apart sc rest next (both_right (nat_le 1 p.line && nat_le 1 p.col && stmt_ok K names sc n s) _ ok) (each_right Agrees (stmt_places plain frames at s) (nodes_places plain frames next rest) agree) h
             ]
 

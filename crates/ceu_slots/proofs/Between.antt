@@ -32,6 +32,7 @@ behind_facts false at a b = (omega arith, right_most at a b, left_most at a b)
   where
     right_most : (at a b : ℕ) → at + b ≤ at + max a b
     right_most at a b = grind arith
+
     left_most : (at a b : ℕ) → at + a ≤ at + max a b
     left_most at a b = grind arith
 

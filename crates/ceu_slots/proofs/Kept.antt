@@ -62,8 +62,8 @@ module _ (offset size frame : ℕ → ℕ) (plain : Bool) (K : Kernel) (names : 
       let first = subst (Each (Inside offset size 8 next)) (decl_numbers frames 8 c.params) (inside offset size 8 next (decl_places frames 8 c.params) own (decls_between frames 8 c.params)) in
       let second = block_inside offset size K names plain frames scope c.body next body inner in
       let all : Each (Inside offset size 8 bytes) (decl_slots c.params ++ block_slots c.body) =
-          each_append (Inside offset size 8 bytes) (decl_slots c.params) (block_slots c.body)
-              (wide 8 next 8 bytes (omega arith) (omega (arith, long)) (decl_slots c.params) first) (wide next end 8 bytes (omega arith) (omega (arith, long)) (block_slots c.body) second) in
+      each_append (Inside offset size 8 bytes) (decl_slots c.params) (block_slots c.body)
+      (wide 8 next 8 bytes (omega arith) (omega (arith, long)) (decl_slots c.params) first) (wide next end 8 bytes (omega arith) (omega (arith, long)) (block_slots c.body) second) in
       record {
         has_link = omega (arith, long);
         parameters_sized = parameters_sized offset size frame K names plain frames (Some k) known c.params 8 params own;
@@ -73,7 +73,7 @@ module _ (offset size frame : ℕ → ℕ) (plain : Bool) (K : Kernel) (names : 
         apart = λ (a b : ℕ) (ne : a ≢ b) (t : CodeTogether a b c). elim t [
           | inl h ↦ beside_apart offset size (decl_places frames 8 c.params) (decl_slots c.params) (block_slots c.body) 8 next end a b (decls_in_turn frames 8 c.params) own (decls_between frames 8 c.params) second ne (decl_numbers frames 8 c.params) h
           | inr h ↦ block_apart offset size K names plain frames a b ne scope c.body next body inner h
-        ]
+        ];
       }
     where
       wide : (low high low' high' : ℕ) → low' ≤ low → high ≤ high' → (ss : List ℕ) → Each (Inside offset size low high) ss → Each (Inside offset size low' high') ss
@@ -91,10 +91,11 @@ module _ (offset size frame : ℕ → ℕ) (plain : Bool) (K : Kernel) (names : 
       let few = both_left (list_all (is_parameter K names) c.params && nat_le (length c.params) 255) _ here in
       let bytes : frame k ≡ own = table k ∙ ap (λ n. entry n (frames_from plain frames (c ∷ cs))) (sym long) ∙ own_frame plain frames c cs in
       let more = one_more frames own in
-      let known : (u : ℕ) → IsTrue (is_above K u (Some k)) → frame u ≡ entry u frames = λ (u : ℕ) (above : IsTrue (is_above K u (Some k))). table u ∙ frames_stay plain frames (c ∷ cs) u (below u above) in
-      (code_kept k frames c (frame k) bytes known (both_left (list_all (is_parameter K names) c.params) _ few) (both_right (list_all (is_parameter K names) c.params && nat_le (length c.params) 255) _ here)
-      (each_left (Agrees offset size) (code_places plain frames c) (codes_places plain later cs) agree),
-      codes_kept (k + 1) later cs (omega (arith, more, long)) table rest (each_right (Agrees offset size) (code_places plain frames c) (codes_places plain later cs) agree))
+      let known : (u : ℕ) → IsTrue (is_above K u (Some k)) → frame u ≡ entry u frames = λ (u : ℕ) (above : IsTrue (is_above K u (Some k))). table u ∙ frames_stay plain frames (c ∷ cs) u (below u above) in (
+        code_kept k frames c (frame k) bytes known (both_left (list_all (is_parameter K names) c.params) _ few) (both_right (list_all (is_parameter K names) c.params && nat_le (length c.params) 255) _ here)
+            (each_left (Agrees offset size) (code_places plain frames c) (codes_places plain later cs) agree),
+        codes_kept (k + 1) later cs (omega (arith, more, long)) table rest (each_right (Agrees offset size) (code_places plain frames c) (codes_places plain later cs) agree),
+      )
     where
       below : (u : ℕ) → IsTrue (is_above K u (Some k)) → u < length frames
       below u above = let h : u < k = ltb-true u k above in omega (arith, h, long)
@@ -129,7 +130,7 @@ parts_of K ok =
     record {
       body = both_right _ (block_ok K names (body_scope K names None K.body ty.S32) K.body) first;
       codes = both_right _ (codes_ok K names 0 K.codes) ok;
-      numbered = both_right (counts_from 0 (block_nodes K.body ++ codes_nodes K.codes)) _ (both_left _ _ (both_left _ _ (both_left _ _ first)))
+      numbered = both_right (counts_from 0 (block_nodes K.body ++ codes_nodes K.codes)) _ (both_left _ _ (both_left _ _ (both_left _ _ first)));
     }
 
 pub all_numbers : (plain : Bool) (K : Kernel) → Proper K → numbers (places plain K) ≡ slot_numbers K
@@ -147,11 +148,12 @@ agrees_from : (offset size : ℕ → ℕ) (k : ℕ) (rs : List SlotPlace) → Is
 agrees_from offset size k [] ok o s = tt
 agrees_from offset size k (r ∷ rs) ok o s =
     let same : r.slot ≡ k = eqb-true r.slot k (both_left _ (counts_from (k + 1) (numbers rs)) ok) in
-    let here : r.slot ≡ k + 0 = omega (arith, same) in
-    ((ap offset here ∙ o 0 (omega arith), ap size here ∙ s 0 (omega arith)),
-    agrees_from offset size (k + 1) rs (both_right _ (counts_from (k + 1) (numbers rs)) ok)
-    (λ (i : ℕ) (h : i < length rs). let next : k + 1 + i ≡ k + suc i = omega arith in ap offset next ∙ o (suc i) (omega arith))
-    (λ (i : ℕ) (h : i < length rs). let next : k + 1 + i ≡ k + suc i = omega arith in ap size next ∙ s (suc i) (omega arith)))
+    let here : r.slot ≡ k + 0 = omega (arith, same) in (
+      (ap offset here ∙ o 0 (omega arith), ap size here ∙ s 0 (omega arith)),
+      agrees_from offset size (k + 1) rs (both_right _ (counts_from (k + 1) (numbers rs)) ok)
+          (λ (i : ℕ) (h : i < length rs). let next : k + 1 + i ≡ k + suc i = omega arith in ap offset next ∙ o (suc i) (omega arith))
+          (λ (i : ℕ) (h : i < length rs). let next : k + 1 + i ≡ k + suc i = omega arith in ap size next ∙ s (suc i) (omega arith)),
+    )
 
 pub table_agrees : (plain : Bool) (K : Kernel) → Proper K → (offsets sizes : List ℕ) → offsets ≡ map the_offset (places plain K) → sizes ≡ map the_size (places plain K) →
     Each (Agrees (slice_index offsets) (slice_index sizes)) (places plain K)
@@ -177,5 +179,5 @@ kept plain K ok offset size frame total agree table whole =
       body_sized = block_sized offset size frame K names plain frames None (λ (c : ℕ) (above : IsTrue (is_above K c None)). table c) scope K.body 0 refl parts.body own;
       within = λ (slot : ℕ) (in' : Contains (block_slots K.body) slot). omega (arith, (each_contains (Inside offset size 0 (0 + block_need plain frames K.body)) (block_slots K.body) slot lies in').1, fits.0, whole);
       apart = λ (a b : ℕ) (ne : a ≢ b) (t : BlockTogether a b K.body). block_apart offset size K names plain frames a b ne scope K.body 0 parts.body own t;
-      frames = codes_kept offset size frame plain K names 0 [] K.codes refl table parts.codes inner
+      frames = codes_kept offset size frame plain K names 0 [] K.codes refl table parts.codes inner;
     }

@@ -8,3 +8,4 @@ pub mod SlotNumbers
 pub mod Apart
 pub mod Sized
 pub mod Kept
+pub mod PlanLaws

@@ -70,24 +70,28 @@ module _ (offset size frame : ℕ → ℕ) where
       stmt_sized sc n (Do l body) at e ok agree = block_sized (with_aim (do_aim K n l) sc) body at e (both_right (outside_finalizers sc.place && _) _ ok) agree
       stmt_sized sc n (If' _ arms last) at e ok agree =
           let parts : IsTrue (outside_finalizers sc.place && arms_ok K names sc arms) = both_left (outside_finalizers sc.place && arms_ok K names sc arms) _ ok in
-          let next = behind plain at (arms_need plain frames arms) in
-          (arms_sized sc arms at e (both_right (outside_finalizers sc.place) _ parts) (each_left (Agrees offset size) (arms_places plain frames at arms) (block_places plain frames next last) agree),
-          block_sized sc last next e (both_right (outside_finalizers sc.place && arms_ok K names sc arms) _ ok) (each_right (Agrees offset size) (arms_places plain frames at arms) (block_places plain frames next last) agree))
+          let next = behind plain at (arms_need plain frames arms) in (
+            arms_sized sc arms at e (both_right (outside_finalizers sc.place) _ parts) (each_left (Agrees offset size) (arms_places plain frames at arms) (block_places plain frames next last) agree),
+            block_sized sc last next e (both_right (outside_finalizers sc.place && arms_ok K names sc arms) _ ok) (each_right (Agrees offset size) (arms_places plain frames at arms) (block_places plain frames next last) agree),
+          )
       stmt_sized sc n (Loop k body) at e ok agree =
-          let next = at + loop_size k in
-          (turns_sized at k (each_left (Agrees offset size) (turn_places at k) (block_places plain frames next body) agree),
-          block_sized (with_aim (LoopAim n) (with_turns K k sc)) body next (same_code K k sc ∙ e) (both_right (outside_finalizers sc.place && loop_ok K sc k) _ ok) (each_right (Agrees offset size) (turn_places at k) (block_places plain frames next body) agree))
+          let next = at + loop_size k in (
+            turns_sized at k (each_left (Agrees offset size) (turn_places at k) (block_places plain frames next body) agree),
+            block_sized (with_aim (LoopAim n) (with_turns K k sc)) body next (same_code K k sc ∙ e) (both_right (outside_finalizers sc.place && loop_ok K sc k) _ ok) (each_right (Agrees offset size) (turn_places at k) (block_places plain frames next body) agree),
+          )
       stmt_sized sc n (Par' k slot _ bs) at e ok agree =
-          let bytes = branch_size k * row_length bs in
-          (par_sized k slot at (row_length bs) (each_left (Agrees offset size) (byte_places slot at bytes) (blocks_places plain frames (at + bytes) bs) agree),
-          blocks_sized sc bs (at + bytes) e (both_right (is_trail sc.place && par_ok K k slot (row_length bs)) _ ok) (each_right (Agrees offset size) (byte_places slot at bytes) (blocks_places plain frames (at + bytes) bs) agree))
+          let bytes = branch_size k * row_length bs in (
+            par_sized k slot at (row_length bs) (each_left (Agrees offset size) (byte_places slot at bytes) (blocks_places plain frames (at + bytes) bs) agree),
+            blocks_sized sc bs (at + bytes) e (both_right (is_trail sc.place && par_ok K k slot (row_length bs)) _ ok) (each_right (Agrees offset size) (byte_places slot at bytes) (blocks_places plain frames (at + bytes) bs) agree),
+          )
       stmt_sized sc n _ at e ok agree = tt
 
       pub block_sized : (sc : Scope) (body : KBlock) (at : ℕ) → sc.code ≡ code → IsTrue (block_ok K names sc body) → Each (Agrees offset size) (block_places plain frames at body) → BlockSized offset size frame body
       block_sized sc (KBlock' n ds x list) at e ok agree =
-          let next = at + decls_size frames ds in
-          (decls_sized sc ds at e (both_left (list_all (decl_ok K sc) ds) _ (both_left (list_all (decl_ok K sc) ds && all_set names ds list) _ ok)) (each_left (Agrees offset size) (decl_places frames at ds) (nodes_places plain frames next list) agree),
-          nodes_sized (with_decls ds sc) list next e (both_right (list_all (decl_ok K sc) ds && all_set names ds list) _ ok) (each_right (Agrees offset size) (decl_places frames at ds) (nodes_places plain frames next list) agree))
+          let next = at + decls_size frames ds in (
+            decls_sized sc ds at e (both_left (list_all (decl_ok K sc) ds) _ (both_left (list_all (decl_ok K sc) ds && all_set names ds list) _ ok)) (each_left (Agrees offset size) (decl_places frames at ds) (nodes_places plain frames next list) agree),
+            nodes_sized (with_decls ds sc) list next e (both_right (list_all (decl_ok K sc) ds && all_set names ds list) _ ok) (each_right (Agrees offset size) (decl_places frames at ds) (nodes_places plain frames next list) agree),
+          )
 
       arm_sized : (sc : Scope) (arm : KArm) (at : ℕ) → sc.code ≡ code → IsTrue (arm_ok K names sc arm) → Each (Agrees offset size) (arm_places plain frames at arm) → ArmSized offset size frame arm
       arm_sized sc (KArm' c body) at e ok agree = block_sized sc body at e (both_right (gives K sc ty.Bool c) _ ok) agree
@@ -95,24 +99,27 @@ module _ (offset size frame : ℕ → ℕ) where
       nodes_sized : {n : _} (sc : Scope) (r : Row_of-KNode n) (at : ℕ) → sc.code ≡ code → IsTrue (nodes_ok K names sc r) → Each (Agrees offset size) (nodes_places plain frames at r) → NodesSized offset size frame r
       nodes_sized sc end_of-KNode at e ok agree = tt
       nodes_sized sc (more_of-KNode n p s rest) at e ok agree =
-          let next = behind plain at (stmt_need plain frames s) in
-          (stmt_sized sc n s at e (both_right (nat_le 1 p.line && nat_le 1 p.col) _ (both_left (nat_le 1 p.line && nat_le 1 p.col && stmt_ok K names sc n s) _ ok))
-          (each_left (Agrees offset size) (stmt_places plain frames at s) (nodes_places plain frames next rest) agree),
-          nodes_sized sc rest next e (both_right (nat_le 1 p.line && nat_le 1 p.col && stmt_ok K names sc n s) _ ok) (each_right (Agrees offset size) (stmt_places plain frames at s) (nodes_places plain frames next rest) agree))
+          let next = behind plain at (stmt_need plain frames s) in (
+            stmt_sized sc n s at e (both_right (nat_le 1 p.line && nat_le 1 p.col) _ (both_left (nat_le 1 p.line && nat_le 1 p.col && stmt_ok K names sc n s) _ ok))
+                (each_left (Agrees offset size) (stmt_places plain frames at s) (nodes_places plain frames next rest) agree),
+            nodes_sized sc rest next e (both_right (nat_le 1 p.line && nat_le 1 p.col && stmt_ok K names sc n s) _ ok) (each_right (Agrees offset size) (stmt_places plain frames at s) (nodes_places plain frames next rest) agree),
+          )
 
       arms_sized : {n : _} (sc : Scope) (r : Row_of-KArm n) (at : ℕ) → sc.code ≡ code → IsTrue (arms_ok K names sc r) → Each (Agrees offset size) (arms_places plain frames at r) → ArmsSized offset size frame r
       arms_sized sc end_of-KArm at e ok agree = tt
       arms_sized sc (more_of-KArm arm rest) at e ok agree =
-          let next = behind plain at (arm_need plain frames arm) in
-          (arm_sized sc arm at e (both_left (arm_ok K names sc arm) _ ok) (each_left (Agrees offset size) (arm_places plain frames at arm) (arms_places plain frames next rest) agree),
-          arms_sized sc rest next e (both_right (arm_ok K names sc arm) _ ok) (each_right (Agrees offset size) (arm_places plain frames at arm) (arms_places plain frames next rest) agree))
+          let next = behind plain at (arm_need plain frames arm) in (
+            arm_sized sc arm at e (both_left (arm_ok K names sc arm) _ ok) (each_left (Agrees offset size) (arm_places plain frames at arm) (arms_places plain frames next rest) agree),
+            arms_sized sc rest next e (both_right (arm_ok K names sc arm) _ ok) (each_right (Agrees offset size) (arm_places plain frames at arm) (arms_places plain frames next rest) agree),
+          )
 
       blocks_sized : {n : _} (sc : Scope) (r : Row_of-KBlock n) (at : ℕ) → sc.code ≡ code → IsTrue (blocks_ok K names sc r) → Each (Agrees offset size) (blocks_places plain frames at r) → BlocksSized offset size frame r
       blocks_sized sc end_of-KBlock at e ok agree = tt
       blocks_sized sc (more_of-KBlock body rest) at e ok agree =
-          let next = at + block_need plain frames body in
-          (block_sized sc body at e (both_left (block_ok K names sc body) _ ok) (each_left (Agrees offset size) (block_places plain frames at body) (blocks_places plain frames next rest) agree),
-          blocks_sized sc rest next e (both_right (block_ok K names sc body) _ ok) (each_right (Agrees offset size) (block_places plain frames at body) (blocks_places plain frames next rest) agree))
+          let next = at + block_need plain frames body in (
+            block_sized sc body at e (both_left (block_ok K names sc body) _ ok) (each_left (Agrees offset size) (block_places plain frames at body) (blocks_places plain frames next rest) agree),
+            blocks_sized sc rest next e (both_right (block_ok K names sc body) _ ok) (each_right (Agrees offset size) (block_places plain frames at body) (blocks_places plain frames next rest) agree),
+          )
 
     -- parameters are variables
     parameter_sized : (d : KDecl) (k : KKind) → IsTrue (is_parameter K names (record d { kind = k })) → decl_size frames k ≡ declared_size offset size frame k

@@ -1,4 +1,4 @@
-ghost use Rattle.std.specs.Prelude.{◌≡◌, ◌+◌, ◌≤◌, [], ◌++◌, map, IfOk, OnOk};
+ghost use Rattle.std.specs.Prelude.{◌≡◌, ◌+◌, ◌≤◌, [], ◌++◌, length, map, IfOk, OnOk};
 ghost use Rattle.ceu_tree.specs.Greatest.{greatest as most};
 ghost use Rattle.ceu_tree.specs.Needs.{frame_of, frames_from, greatest_of, slots};
 ghost use Rattle.ceu_slots.specs.Layout as spec;
@@ -14,6 +14,7 @@ pub struct Layout {
     pub size: Vec<u16>,
     pub frame: Vec<u16>,
     pub total: u16,
+    ghost even: { length size.items ≡ length offset.items },
 }
 
 fn place_code(

@@ -5,5 +5,5 @@ use Rattle.ceu_slots.proofs.plans.shorts.Given as goal
 abbrev pub invariant-loop-number : goal.invariant-loop-number
 invariant-loop-number l = record {
   numbers : l.numbers ≡ l.short.items ++ drop l.number-index l.numbers;
-  fits : greatest_of (drop l.number-index l.numbers) ≤ 65535
+  fits : greatest_of (drop l.number-index l.numbers) ≤ 65535;
 }
