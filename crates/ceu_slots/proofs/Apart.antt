@@ -1,5 +1,5 @@
 -- Slots that may live together are disjoint, where offsets and sizes are those of the places.
-use Rattle.std.proofs.Common.{◌≡◌, ◌≢◌, refl, sym, ap, subst, ◌∙◌, ℕ, zero, suc, ◌+◌, ◌*◌, ◌<◌, ◌≤◌, ◌⊎◌, inl, inr, Bool, true, false, ◌&&◌, IsTrue, nat_le, List, [], ◌∷◌, ◌++◌, length, get_or, map, Contains, arith}
+use Rattle.std.proofs.Common.{◌≡◌, ◌≢◌, sym, ap, subst, ◌∙◌, ℕ, zero, suc, ◌+◌, ◌*◌, ◌<◌, ◌≤◌, ◌⊎◌, inl, inr, Bool, ◌&&◌, IsTrue, nat_le, List, [], ◌∷◌, ◌++◌, length, get_or, Contains, arith}
 use Rattle.std.specs.List.{list_all}
 use Rattle.std.proofs.lemmas.List.Elements.{Contains-append_cases}
 use Rattle.ceu_base.specs.declared.kinds.Ty.TheVariants as ty
@@ -9,15 +9,15 @@ use Rattle.ceu_tree.specs.declared.kernel.KLoop.{KLoop}
 use Rattle.ceu_tree.specs.declared.kernel.KLoop.TheVariants as turns
 use Rattle.ceu_tree.specs.declared.kernel.KBlock.{KBlock, KBlock', Row_of-KNode, end_of-KNode, more_of-KNode}
 use Rattle.ceu_tree.specs.declared.kernel.KArm.{KArm, KArm'}
-use Rattle.ceu_tree.specs.declared.kernel.KStmt.{KStmt, Row_of-KArm, end_of-KArm, more_of-KArm, Row_of-KBlock, end_of-KBlock, more_of-KBlock, AwaitCode, Async, Do, If', Loop, Par'}
+use Rattle.ceu_tree.specs.declared.kernel.KStmt.{KStmt, Row_of-KArm, end_of-KArm, more_of-KArm, Row_of-KBlock, end_of-KBlock, more_of-KBlock, Async, Do, If', Loop, Par'}
 use Rattle.ceu_tree.specs.Needs.{decl_size, decls_size, loop_size, branch_size, stmt_need, block_need, nodes_need, arm_need, arms_need}
 use Rattle.ceu_tree.specs.Numbering.{decl_slots, loop_slots, par_slots, row_length, block_slots, list_slots, blocks_slots}
 use Rattle.ceu_tree.specs.Proper.{Scope, is_trail, outside_finalizers, with_decls, with_turns, with_aim, do_aim, LoopAim, in_async, decl_ok, loop_ok, par_ok, gives, stmt_ok, block_ok, arm_ok, nodes_ok, arms_ok, blocks_ok}
 use Rattle.ceu_tree.specs.Mentions.{all_set}
 use Rattle.ceu_slots.specs.declared.layout.SlotPlace.{SlotPlace}
-use Rattle.ceu_slots.specs.Layout.{place, behind, decl_places, turn_places, byte_places, stmt_places, block_places, arm_places, nodes_places, arms_places, blocks_places}
+use Rattle.ceu_slots.specs.Layout.{behind, decl_places, turn_places, byte_places, stmt_places, block_places, arm_places, nodes_places, arms_places, blocks_places}
 use Rattle.ceu_slots.specs.Law.{Beside, Across, StmtTogether, BlockTogether, ArmTogether, NodesTogether, ArmsTogether, BlocksTogether}
-use Rattle.ceu_slots.proofs.Each.{Each, each_append, each_left, each_right, each_weaker, each_both, each_map, both_left, both_right}
+use Rattle.ceu_slots.proofs.Each.{Each, each_left, each_right, each_weaker, each_both, each_map, both_left, both_right}
 use Rattle.ceu_slots.proofs.Between.{Between, bare, decls_between, turns_between, bytes_between, block_between, nodes_between, blocks_between}
 use Rattle.ceu_slots.proofs.SlotNumbers.{numbers, decl_numbers, turn_numbers, par_numbers, block_numbers, nodes_numbers, blocks_numbers}
 

@@ -1,5 +1,5 @@
 -- The slots of a part lie between its place and the end of what it needs.
-use Rattle.std.proofs.Common.{◌≡◌, refl, sym, ap, subst, ◌∙◌, ℕ, zero, suc, ◌+◌, ◌*◌, ◌≤◌, max, Bool, true, false, List, [], ◌∷◌, ◌++◌, zero-le, arith}
+use Rattle.std.proofs.Common.{◌≡◌, refl, ap, ◌∙◌, ℕ, zero, suc, ◌+◌, ◌*◌, ◌≤◌, max, Bool, true, false, List, [], ◌∷◌, ◌++◌, zero-le, arith}
 use Rattle.ceu_tree.specs.declared.kernel.KDecl.{KDecl}
 use Rattle.ceu_tree.specs.declared.kernel.KCode.{KCode}
 use Rattle.ceu_tree.specs.declared.kernel.Kernel.{Kernel}
@@ -9,10 +9,10 @@ use Rattle.ceu_tree.specs.declared.kernel.KBlock.{KBlock, KBlock', Row_of-KNode,
 use Rattle.ceu_tree.specs.declared.kernel.KArm.{KArm, KArm'}
 use Rattle.ceu_tree.specs.declared.kernel.KStmt.{KStmt, Row_of-KArm, end_of-KArm, more_of-KArm, Row_of-KBlock, end_of-KBlock, more_of-KBlock, AwaitCode, Async, Do, If', Loop, Par'}
 use Rattle.ceu_tree.specs.Greatest.{greatest}
-use Rattle.ceu_tree.specs.Needs.{entry, apart, decl_size, decls_size, loop_size, branch_size, stmt_need, block_need, nodes_need, arm_need, arms_need, blocks_need, frame_of, frames_from, greatest_of, slots}
+use Rattle.ceu_tree.specs.Needs.{apart, decl_size, decls_size, loop_size, branch_size, stmt_need, block_need, nodes_need, arm_need, arms_need, blocks_need, frame_of, frames_from, greatest_of, slots}
 use Rattle.ceu_tree.specs.Numbering.{row_length}
 use Rattle.ceu_slots.specs.declared.layout.SlotPlace.{SlotPlace}
-use Rattle.ceu_slots.specs.Layout.{place, behind, decl_places, turn_places, byte_places, stmt_places, block_places, arm_places, nodes_places, arms_places, blocks_places, code_places, codes_places, places, the_offset, the_size}
+use Rattle.ceu_slots.specs.Layout.{behind, decl_places, turn_places, byte_places, stmt_places, block_places, arm_places, nodes_places, arms_places, blocks_places, code_places, codes_places, places}
 use Rattle.ceu_slots.proofs.Each.{Each, each_append, each_weaker}
 
 abbrev pub Between : (low high : ℕ) → SlotPlace → Type 0

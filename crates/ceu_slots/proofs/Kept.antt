@@ -1,7 +1,6 @@
 -- A plan that has the places of a layout keeps the law.
-use Rattle.std.proofs.Common.{◌≡◌, ◌≢◌, refl, sym, ap, subst, ◌∙◌, ℕ, zero, suc, ◌+◌, ◌<◌, ◌≤◌, ◌⊎◌, inl, inr, Bool, true, false, ◌&&◌, IsTrue, nat_le, nat_lt, List, [], ◌∷◌, ◌++◌, length, get_or, map, Some, None, Contains, slice_index, arith}
+use Rattle.std.proofs.Common.{◌≡◌, ◌≢◌, refl, sym, ap, subst, ◌∙◌, ℕ, zero, suc, ◌+◌, ◌<◌, ◌≤◌, inl, inr, Bool, ◌&&◌, IsTrue, nat_le, List, [], ◌∷◌, ◌++◌, length, get_or, map, Some, None, Contains, slice_index, arith}
 use Rattle.std.specs.List.{list_all}
-use Rattle.std.proofs.lemmas.List.{map-append, length-map, length-append}
 use Rattle.std.proofs.lemmas.Bool.{eqb-true}
 use borrow.Author.Tests.{ltb-true}
 use Rattle.ceu_base.specs.declared.kinds.Ty.TheVariants as ty
@@ -9,15 +8,15 @@ use Rattle.ceu_tree.specs.declared.kernel.Kernel.{Kernel}
 use Rattle.ceu_tree.specs.declared.kernel.KCode.{KCode}
 use Rattle.ceu_tree.specs.Needs.{entry, decls_size, block_need, frame_of, frames_from, slots}
 use Rattle.ceu_tree.specs.Numbering.{decl_slots, block_slots, codes_slots, counts_from, is_numbered, block_nodes, codes_nodes}
-use Rattle.ceu_tree.specs.Proper.{Scope, is_above, with_decls, block_ok, codes_ok, body_scope, is_parameter, is_proper, Proper, ports_ok, events_ok}
+use Rattle.ceu_tree.specs.Proper.{is_above, with_decls, block_ok, codes_ok, body_scope, is_parameter, is_proper, Proper}
 use Rattle.ceu_tree.specs.Mentions.{outer_names_from}
 use Rattle.ceu_slots.specs.declared.layout.SlotPlace.{SlotPlace}
 use Rattle.ceu_slots.specs.Layout.{decl_places, block_places, code_places, codes_places, places, slot_numbers, the_offset, the_size}
-use Rattle.ceu_slots.specs.Law.{Beside, CodeTogether, BlockTogether, BlockSized, FrameKept, FramesKept, KeepsPlaces}
+use Rattle.ceu_slots.specs.Law.{CodeTogether, BlockTogether, FrameKept, FramesKept, KeepsPlaces}
 use Rattle.ceu_slots.proofs.Each.{Each, each_append, each_left, each_right, both_left, both_right}
-use Rattle.ceu_slots.proofs.Between.{Between, decls_between, block_between, slots_parts}
+use Rattle.ceu_slots.proofs.Between.{decls_between, slots_parts}
 use Rattle.ceu_slots.proofs.SlotNumbers.{numbers, numbers_append, decl_numbers, block_numbers}
-use Rattle.ceu_slots.proofs.Apart.{Agrees, Away, Inside, each_contains, inside, decls_in_turn, beside_apart, block_inside, block_apart}
+use Rattle.ceu_slots.proofs.Apart.{Agrees, Inside, each_contains, inside, decls_in_turn, beside_apart, block_inside, block_apart}
 use Rattle.ceu_slots.proofs.Sized.{block_sized, parameters_sized, parameters_stand}
 
 -- ---- tables

@@ -1,5 +1,5 @@
 -- Slots have their sizes, where offsets and sizes are those of the places and a frame is that of the table.
-use Rattle.std.proofs.Common.{◌≡◌, refl, sym, ap, subst, ◌∙◌, ℕ, zero, suc, ◌+◌, ◌*◌, ◌<◌, ◌≤◌, Bool, true, false, ◌&&◌, not, IsTrue, nat_le, nat_lt, List, [], ◌∷◌, ◌++◌, length, Option, Some, None, arith}
+use Rattle.std.proofs.Common.{◌≡◌, refl, sym, ap, subst, ◌∙◌, ℕ, zero, suc, ◌+◌, ◌*◌, Bool, true, ◌&&◌, IsTrue, nat_le, List, [], ◌∷◌, Option, arith}
 use Rattle.std.specs.List.{list_all}
 use Rattle.ceu_base.specs.declared.kinds.Ty.TheVariants as ty
 use Rattle.ceu_tree.specs.declared.kernel.Kernel.{Kernel}
@@ -18,10 +18,9 @@ use Rattle.ceu_tree.specs.Needs.{entry, decl_size, decls_size, loop_size, branch
 use Rattle.ceu_tree.specs.Numbering.{par_slots, range_of, row_length}
 use Rattle.ceu_tree.specs.Proper.{Scope, is_trail, is_above, on_code, outside_finalizers, with_decls, with_turns, with_aim, do_aim, LoopAim, in_async, decl_ok, loop_ok, par_ok, gives, stmt_ok, block_ok, arm_ok, nodes_ok, arms_ok, blocks_ok, is_parameter}
 use Rattle.ceu_tree.specs.Mentions.{all_set}
-use Rattle.ceu_slots.specs.declared.layout.SlotPlace.{SlotPlace}
-use Rattle.ceu_slots.specs.Layout.{place, behind, decl_places, turn_places, byte_places, stmt_places, block_places, arm_places, nodes_places, arms_places, blocks_places}
+use Rattle.ceu_slots.specs.Layout.{behind, decl_places, turn_places, byte_places, stmt_places, block_places, arm_places, nodes_places, arms_places, blocks_places}
 use Rattle.ceu_slots.specs.Law.{declared_size, DeclsSized, TurnsSized, BytesSized, StandFrom, StmtSized, BlockSized, ArmSized, NodesSized, ArmsSized, BlocksSized}
-use Rattle.ceu_slots.proofs.Each.{Each, each_left, each_right, both_left, both_right, contrary}
+use Rattle.ceu_slots.proofs.Each.{Each, each_left, each_right, both_left, both_right}
 use Rattle.ceu_slots.proofs.Apart.{Agrees}
 
 same_code : (K : Kernel) (k : KLoop) (sc : Scope) → (with_turns K k sc).code ≡ sc.code

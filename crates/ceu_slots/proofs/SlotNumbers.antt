@@ -1,11 +1,9 @@
 -- In a proper kernel a finalizer has no slots, and the places stand in the order of the slots' numbers.
-use Rattle.std.proofs.Common.{◌≡◌, refl, sym, ap, subst, ◌∙◌, ℕ, zero, suc, ◌+◌, ◌*◌, ◌<◌, ◌≤◌, Bool, true, false, ◌&&◌, IsTrue, nat_le, List, [], ◌∷◌, ◌++◌, length, get_or, map, Some, None, if◌then◌else◌, ◌==◌, zero-add, arith}
+use Rattle.std.proofs.Common.{◌≡◌, refl, sym, ap, ◌∙◌, ℕ, zero, suc, ◌+◌, ◌*◌, Bool, false, ◌&&◌, IsTrue, nat_le, List, [], ◌∷◌, ◌++◌, map, arith}
 use Rattle.std.specs.List.{list_all}
-use Rattle.std.proofs.lemmas.List.{map-append, length-map}
-use Rattle.std.proofs.lemmas.Bool.{eq-eqb, eqb-true, ne_eqb}
+use Rattle.std.proofs.lemmas.List.{map-append}
 use Rattle.ceu_base.specs.declared.kinds.Ty.TheVariants as ty
 use Rattle.ceu_tree.specs.declared.kernel.Kernel.{Kernel}
-use Rattle.ceu_tree.specs.declared.kernel.KCode.{KCode}
 use Rattle.ceu_tree.specs.declared.kernel.KDecl.{KDecl}
 use Rattle.ceu_tree.specs.declared.kernel.KKind.{KKind}
 use Rattle.ceu_tree.specs.declared.kernel.KKind.TheVariants as kind
@@ -16,13 +14,13 @@ use Rattle.ceu_tree.specs.declared.kernel.ParKind.TheVariants as par
 use Rattle.ceu_tree.specs.declared.kernel.KBlock.{KBlock, KBlock', Row_of-KNode, end_of-KNode, more_of-KNode}
 use Rattle.ceu_tree.specs.declared.kernel.KArm.{KArm, KArm'}
 use Rattle.ceu_tree.specs.declared.kernel.KStmt.{KStmt, Row_of-KArm, end_of-KArm, more_of-KArm, Row_of-KBlock, end_of-KBlock, more_of-KBlock, AwaitCode, Async, Finalize, Do, If', Loop, Par'}
-use Rattle.ceu_tree.specs.Needs.{decl_size, decls_size, loop_size, branch_size, stmt_need, block_need, arm_need, arms_need, frame_of, frames_from}
-use Rattle.ceu_tree.specs.Numbering.{decl_slots, loop_slots, par_slots, range_of, row_length, stmt_slots, block_slots, arm_slots, list_slots, arms_slots, blocks_slots, codes_slots, counts_from, is_numbered}
-use Rattle.ceu_tree.specs.Proper.{Scope, Where, InFinalizer, is_trail, outside_finalizers, with_decls, with_turns, with_aim, do_aim, LoopAim, in_async, in_finalizer, decl_ok, loop_ok, par_ok, gives, stmt_ok, block_ok, arm_ok, nodes_ok, arms_ok, blocks_ok, codes_ok, body_scope, is_parameter, is_proper, Proper}
-use Rattle.ceu_tree.specs.Mentions.{all_set, outer_names_from}
+use Rattle.ceu_tree.specs.Needs.{decl_size, decls_size, loop_size, branch_size, stmt_need, block_need, arm_need, arms_need}
+use Rattle.ceu_tree.specs.Numbering.{decl_slots, loop_slots, par_slots, range_of, row_length, stmt_slots, block_slots, arm_slots, list_slots, arms_slots, blocks_slots}
+use Rattle.ceu_tree.specs.Proper.{Scope, is_trail, outside_finalizers, with_decls, with_turns, with_aim, do_aim, LoopAim, in_async, in_finalizer, decl_ok, loop_ok, par_ok, gives, stmt_ok, block_ok, arm_ok, nodes_ok, arms_ok, blocks_ok}
+use Rattle.ceu_tree.specs.Mentions.{all_set}
 use Rattle.ceu_slots.specs.declared.layout.SlotPlace.{SlotPlace}
-use Rattle.ceu_slots.specs.Layout.{place, behind, decl_places, turn_places, byte_places, stmt_places, block_places, arm_places, nodes_places, arms_places, blocks_places, code_places, codes_places, places, slot_numbers}
-use Rattle.ceu_slots.proofs.Each.{Each, each_append, each_weaker, both_left, both_right, contrary}
+use Rattle.ceu_slots.specs.Layout.{behind, decl_places, turn_places, byte_places, stmt_places, block_places, arm_places, nodes_places, arms_places, blocks_places}
+use Rattle.ceu_slots.proofs.Each.{both_left, both_right, contrary}
 
 module _ (K : Kernel) (names : List (List ℕ)) where
   decl_none : (sc : Scope) (d : KDecl) (k : KKind) → is_trail sc.place ≡ false → outside_finalizers sc.place ≡ false → IsTrue (decl_ok K sc (record d { kind = k })) → ⊥

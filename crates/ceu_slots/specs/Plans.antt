@@ -1,10 +1,8 @@
 -- What a plan says, and when it fits a kernel.
-use Rattle.std.specs.Prelude.{◌≡◌, ℕ, ◌<◌, Bool, List, [], length, slice_index, map}
+use Rattle.std.specs.Prelude.{◌≡◌, ℕ, ◌<◌, Bool, length, slice_index}
 use Rattle.ceu_tree.specs.declared.kernel.Kernel.{Kernel}
-use Rattle.ceu_tree.specs.Needs.{frames_from, slots}
-use Rattle.ceu_tree.specs.Proper.{Proper}
 use Rattle.ceu_slots.specs.declared.plans.Layout.{Layout}
-use Rattle.ceu_slots.specs.Layout.{places, the_offset, the_size, slot_numbers, offset_of, size_of, frame_of_code, total_of}
+use Rattle.ceu_slots.specs.Layout.{slot_numbers, offset_of, size_of, frame_of_code, total_of}
 use Rattle.ceu_slots.specs.Law.{KeepsPlaces}
 
 -- by the number of a slot its offset in its frame and its size, by the number of a code the size of its frame, and the bytes of the whole

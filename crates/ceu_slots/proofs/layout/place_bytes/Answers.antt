@@ -1,4 +1,4 @@
-use Rattle.std.proofs.Common.{◌≡◌, ◌+◌, ◌-◌, ◌<◌, ◌∷◌, ◌++◌, [], arith}
+use Rattle.std.proofs.Common.{◌+◌, ◌-◌, ◌<◌, ◌∷◌, ◌++◌, [], arith}
 use Rattle.ceu_slots.specs.Layout.{place, byte_places}
 use Rattle.ceu_slots.proofs.Walks.{goes_on, bytes_next}
 use Rattle.ceu_slots.proofs.layout.place_bytes.Goals as goal

@@ -1,8 +1,7 @@
 use Rattle.std.proofs.Common.{◌≡◌, ◌+◌, ◌<◌, ◌≤◌, ◌∷◌, ◌++◌, [], length, drop, ap, arith}
-use Rattle.std.proofs.lemmas.Grind.{common_steps}
 use Rattle.ceu_tree.specs.Needs.{decl_size, decls_size}
 use Rattle.ceu_slots.specs.Layout.{place, decl_places}
-use Rattle.ceu_slots.proofs.Walks.{next_item, goes_on, uncut}
+use Rattle.ceu_slots.proofs.Walks.{next_item, goes_on}
 use Rattle.ceu_slots.proofs.layout.place_decls.Goals as goal
 
 pub loop-decl-preserved : goal.loop-decl-preserved

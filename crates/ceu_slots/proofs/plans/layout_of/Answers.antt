@@ -1,4 +1,4 @@
-use Rattle.std.proofs.Common.{◌≡◌, ◌≤◌, [], arith}
+use Rattle.std.proofs.Common.{arith}
 use Rattle.std.proofs.lemmas.Grind.{common_steps}
 use Rattle.ceu_slots.proofs.Between.{slots_parts, whole_reach}
 use Rattle.ceu_slots.proofs.plans.layout_of.Goals as goal

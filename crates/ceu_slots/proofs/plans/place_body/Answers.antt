@@ -1,6 +1,5 @@
-use Rattle.std.proofs.Common.{◌≡◌, ◌≤◌, [], max, arith}
+use Rattle.std.proofs.Common.{arith}
 use Rattle.std.proofs.lemmas.Grind.{common_steps}
-use Rattle.ceu_tree.specs.Needs.{slots}
 use Rattle.ceu_slots.proofs.Between.{slots_parts, whole_slots, whole_places}
 use Rattle.ceu_slots.proofs.plans.place_body.Goals as goal
 

@@ -1,6 +1,5 @@
-use Rattle.std.proofs.Common.{◌≡◌, ◌+◌, ◌<◌, ◌≤◌, length, drop, ap, arith}
-use Rattle.std.proofs.lemmas.Grind.{common_steps}
-use Rattle.ceu_tree.specs.Needs.{frame_of, frames_from, greatest_of}
+use Rattle.std.proofs.Common.{◌+◌, ◌<◌, length, drop, ap, arith}
+use Rattle.ceu_tree.specs.Needs.{frames_from, greatest_of}
 use Rattle.ceu_slots.proofs.Walks.{next_item}
 use Rattle.ceu_slots.proofs.Between.{frame_among}
 use Rattle.ceu_slots.proofs.plans.place_codes.Goals as goal

@@ -1,4 +1,4 @@
-use Rattle.std.proofs.Common.{◌≡◌, ◌+◌, ◌≤◌, ◌++◌, drop, map}
+use Rattle.std.proofs.Common.{◌≡◌, ◌≤◌, ◌++◌, drop, map}
 use Rattle.ceu_slots.specs.Layout.{the_size}
 use Rattle.ceu_slots.proofs.Between.{reach}
 use Rattle.ceu_slots.proofs.plans.sizes.Given as goal
