@@ -1,5 +1,5 @@
 -- Plans of a layout: they have its places, and keep the law.
-use Rattle.std.proofs.Common.{◌≡◌, refl, sym, ap, ◌∙◌, ℕ, zero, suc, ◌+◌, ◌<◌, Bool, true, false, IsTrue, ◌==◌, if◌then◌else◌, List, [], ◌∷◌, ◌++◌, length, get_or, slice_index, map, arith}
+use Rattle.std.proofs.Common.{◌≡◌, refl, sym, ap, ◌∙◌, ℕ, zero, suc, ◌+◌, ◌^◌, ◌<◌, Bool, true, false, IsTrue, ◌==◌, if◌then◌else◌, List, [], ◌∷◌, ◌++◌, length, get_or, slice_index, map, arith}
 use Rattle.std.proofs.lemmas.List.{length-map, length-append}
 use Rattle.std.proofs.lemmas.Bool.{eq-eqb, eqb-true, ne_eqb}
 use Rattle.ceu_tree.specs.declared.kernel.Kernel.{Kernel}
@@ -80,10 +80,11 @@ has_places plain l K f = record {
   whole = f.total;
 }
 
-pub lawful : (plain : Bool) (l : Layout) (K : Kernel) → IsLayoutOf plain l K → Lawful (planned_of l) K
-lawful plain l K f = record {
+pub lawful : (plain : Bool) (l : Layout) (K : Kernel) → length l.offset.items < 2 ^ 32 → IsLayoutOf plain l K → Lawful (planned_of l) K
+lawful plain l K few f = record {
   slots_counted = slots_counted plain l K f;
   codes_counted = codes_counted plain l K f;
+  few_slots = few;
   kept = kept plain K f.proper (slice_index l.offset.items) (slice_index l.size.items) (slice_index l.frame.items) l.total (table_agrees plain K f.proper l.offset.items l.size.items f.offset f.size)
       (λ (c : ℕ). entry_is c l.frame.items ∙ ap (entry c) f.frame) f.total;
 }

@@ -1,5 +1,5 @@
 -- What a plan says, and when it fits a kernel.
-use Rattle.std.specs.Prelude.{◌≡◌, ℕ, ◌<◌, Bool, length, slice_index}
+use Rattle.std.specs.Prelude.{◌≡◌, ℕ, ◌^◌, ◌<◌, Bool, length, slice_index}
 use Rattle.ceu_tree.specs.declared.kernel.Kernel.{Kernel}
 use Rattle.ceu_slots.specs.declared.plans.Layout.{Layout}
 use Rattle.ceu_slots.specs.Layout.{slot_numbers, offset_of, size_of, frame_of_code, total_of}
@@ -14,10 +14,11 @@ pub record Planned : Type 0 where
   pub slot_count : ℕ
   pub code_count : ℕ
 
--- a plan of this kernel: it has its slots and codes, and keeps the law
+-- a plan of this kernel: it has its slots and codes, and keeps the law; each slot has a number of 32 bits
 pub record Lawful (p : Planned) (K : Kernel) : Type 0 where
   pub slots_counted : p.slot_count ≡ length (slot_numbers K)
   pub codes_counted : p.code_count ≡ length K.codes
+  pub few_slots : p.slot_count < 2 ^ 32
   pub kept : KeepsPlaces p.offset p.size p.frame K p.total
 
 -- its numbers are the places of a layout

@@ -1,4 +1,4 @@
-ghost use Rattle.std.specs.Prelude.{◌≡◌, ◌+◌, ◌≤◌, [], ◌++◌, length, map, IfOk, OnOk};
+ghost use Rattle.std.specs.Prelude.{◌≡◌, ◌+◌, ◌^◌, ◌<◌, ◌≤◌, [], ◌++◌, length, map, IfOk, OnOk};
 ghost use Rattle.ceu_tree.specs.Greatest.{greatest as most};
 ghost use Rattle.ceu_tree.specs.Needs.{frame_of, frames_from, greatest_of, slots};
 ghost use Rattle.ceu_slots.specs.Layout as spec;
@@ -15,6 +15,7 @@ pub struct Layout {
     pub frame: Vec<u16>,
     pub total: u16,
     ghost even: { length size.items ≡ length offset.items },
+    ghost numbered: { length offset.items < 2 ^ 32 },
 }
 
 fn place_code(
@@ -115,6 +116,10 @@ pub fn layout_of(alloc: Global, plain: bool, kernel: &Kernel) -> Result<Layout, 
     let mut rows = Vec::new(alloc);
     place_codes(plain, kernel.codes.items(), &mut frames, &mut bodies)?;
     let total = place_body(plain, &frames, kernel, &bodies, &mut rows)?;
+    // a slot's number is one of 32 bits
+    if rows.len() > u32::MAX as usize {
+        return Err(AllocError);
+    }
     let offset = offsets(alloc, &rows)?;
     let size = sizes(alloc, &rows)?;
     let frame = shorts(alloc, &frames)?;
