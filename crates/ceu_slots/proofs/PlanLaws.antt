@@ -80,11 +80,12 @@ has_places plain l K f = record {
   whole = f.total;
 }
 
-pub lawful : (plain : Bool) (l : Layout) (K : Kernel) → length l.offset.items < 2 ^ 32 → IsLayoutOf plain l K → Lawful (planned_of l) K
-lawful plain l K few f = record {
+pub lawful : (plain : Bool) (l : Layout) (K : Kernel) → length l.offset.items < 2 ^ 32 → length l.frame.items < 2 ^ 32 → IsLayoutOf plain l K → Lawful (planned_of l) K
+lawful plain l K few few' f = record {
   slots_counted = slots_counted plain l K f;
   codes_counted = codes_counted plain l K f;
   few_slots = few;
+  few_codes = few';
   kept = kept plain K f.proper (slice_index l.offset.items) (slice_index l.size.items) (slice_index l.frame.items) l.total (table_agrees plain K f.proper l.offset.items l.size.items f.offset f.size)
       (λ (c : ℕ). entry_is c l.frame.items ∙ ap (entry c) f.frame) f.total;
 }

@@ -14,11 +14,12 @@ pub record Planned : Type 0 where
   pub slot_count : ℕ
   pub code_count : ℕ
 
--- a plan of this kernel: it has its slots and codes, and keeps the law; each slot has a number of 32 bits
+-- a plan of this kernel: it has its slots and codes, and keeps the law; numbers of slots and codes have 32 bits
 pub record Lawful (p : Planned) (K : Kernel) : Type 0 where
   pub slots_counted : p.slot_count ≡ length (slot_numbers K)
   pub codes_counted : p.code_count ≡ length K.codes
   pub few_slots : p.slot_count < 2 ^ 32
+  pub few_codes : p.code_count < 2 ^ 32
   pub kept : KeepsPlaces p.offset p.size p.frame K p.total
 
 -- its numbers are the places of a layout

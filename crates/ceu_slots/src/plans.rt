@@ -16,6 +16,7 @@ pub struct Layout {
     pub total: u16,
     ghost even: { length size.items ≡ length offset.items },
     ghost numbered: { length offset.items < 2 ^ 32 },
+    ghost numbered_codes: { length frame.items < 2 ^ 32 },
 }
 
 fn place_code(
@@ -116,8 +117,8 @@ pub fn layout_of(alloc: Global, plain: bool, kernel: &Kernel) -> Result<Layout, 
     let mut rows = Vec::new(alloc);
     place_codes(plain, kernel.codes.items(), &mut frames, &mut bodies)?;
     let total = place_body(plain, &frames, kernel, &bodies, &mut rows)?;
-    // a slot's number is one of 32 bits
-    if rows.len() > u32::MAX as usize {
+    // the number of a slot, and that of a code, is one of 32 bits
+    if rows.len().max(frames.len()) > u32::MAX as usize {
         return Err(AllocError);
     }
     let offset = offsets(alloc, &rows)?;
