@@ -6,3 +6,4 @@ pub mod Tests
 pub mod Quiet
 pub mod Within
 pub mod Numbered
+pub mod Orders

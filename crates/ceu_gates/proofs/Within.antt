@@ -46,7 +46,7 @@ module _ (K : Kernel) (names : List (List ℕ)) (table : List ℕ) where
   mutual
     unfolding stmt_ok stmt_gates stmt_ranges nodes_finalizers
 
-    within_stmt : (sc : Scope) (n : ℕ) (s : KStmt) (g : ℕ) → IsTrue (stmt_ok K names sc n s) → reach (stmt_ranges table g s) ≤ g + stmt_gates table s
+    pub within_stmt : (sc : Scope) (n : ℕ) (s : KStmt) (g : ℕ) → IsTrue (stmt_ok K names sc n s) → reach (stmt_ranges table g s) ≤ g + stmt_gates table s
     within_stmt sc n (Async b) g ok =
         let ok' = both_right (is_trail sc.place) _ ok in
         let one : block_gates table b ≡ 1 = quiet_block K names table (in_async K sc) b refl ok' in

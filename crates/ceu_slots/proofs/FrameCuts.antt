@@ -1,13 +1,12 @@
 -- The frames of codes by cut frames: what a table of cut numbers gives, cut, is what the exact one gives, cut.
-use Rattle.std.proofs.Common.{◌≡◌, refl, ap, ◌∙◌, sym, ℕ, zero, suc, ◌+◌, ◌*◌, ◌<◌, min, max, List, [], ◌∷◌, ◌++◌, map, length, take, get_or, Bool, true, false, arith}
+use Rattle.std.proofs.Common.{◌≡◌, refl, ap, ◌∙◌, ℕ, zero, suc, ◌+◌, ◌<◌, List, [], ◌∷◌, ◌++◌, map, length, take, get_or, Bool, true, false, arith}
 use Rattle.ceu_tree.specs.declared.kernel.KCode.{KCode}
 use Rattle.ceu_tree.specs.declared.kernel.KDecl.{KDecl}
 use Rattle.ceu_tree.specs.declared.kernel.KKind.{KKind}
 use Rattle.ceu_tree.specs.declared.kernel.KKind.TheVariants as kind
-use Rattle.ceu_tree.specs.declared.kernel.ParKind.{ParKind}
 use Rattle.ceu_tree.specs.declared.kernel.KBlock.{KBlock, KBlock', Row_of-KNode, end_of-KNode, more_of-KNode}
 use Rattle.ceu_tree.specs.declared.kernel.KArm.{KArm, KArm'}
-use Rattle.ceu_tree.specs.declared.kernel.KStmt.{KStmt, Row_of-KArm, end_of-KArm, more_of-KArm, Row_of-KBlock, end_of-KBlock, more_of-KBlock, AwaitCode, Async, Do, If', Loop, Par', Nothing, Assign, Out, Emit, AwaitIn, AwaitTime, AwaitEvent, Forever, Spawn, Kill, Unset, Finalize, Escape, Break, Continue}
+use Rattle.ceu_tree.specs.declared.kernel.KStmt.{KStmt, Row_of-KArm, end_of-KArm, more_of-KArm, Row_of-KBlock, end_of-KBlock, more_of-KBlock, AwaitCode, Async, Do, If', Loop, Par'}
 use Rattle.ceu_tree.specs.Cut.{cut}
 use Rattle.ceu_tree.specs.Needs.{entry, decl_size, decls_size, apart, loop_size, branch_size, stmt_need, block_need, arm_need, nodes_need, arms_need, blocks_need, frame_of, frames_from}
 use Rattle.ceu_tree.proofs.CutLaws.{same_plus, same_times, cut_idem}

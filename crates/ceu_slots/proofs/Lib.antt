@@ -2,3 +2,10 @@ pub mod NeedSums
 pub mod FrameCuts
 pub mod PlaceLaws
 pub mod Walks
+pub mod Each
+pub mod Between
+pub mod SlotNumbers
+pub mod Apart
+pub mod Sized
+pub mod Kept
+pub mod PlanLaws

@@ -2,17 +2,14 @@
 use Rattle.std.proofs.Common.{◌≡◌, refl, sym, ap, subst, ◌∙◌, ℕ, zero, suc, ◌+◌, ◌-◌, ◌<◌, ◌≤◌, max, Bool, true, false, List, [], ◌∷◌, ◌++◌, length, drop, get_or, append_assoc, add-one, arith}
 use Rattle.std.proofs.Math.Seq.{drop-cons}
 use Rattle.std.proofs.lemmas.List.{append-nil, drop_all}
-use Rattle.ceu_tree.specs.declared.kernel.KDecl.{KDecl}
 use Rattle.ceu_tree.specs.declared.kernel.KNode.{KNode}
 use Rattle.ceu_tree.specs.declared.kernel.KArm.{KArm}
 use Rattle.ceu_tree.specs.declared.kernel.KBlock.{KBlock}
-use Rattle.ceu_tree.specs.Greatest.{total}
 use Rattle.ceu_tree.specs.Cut.{cut}
-use Rattle.ceu_tree.specs.Needs.{apart, joined, decl_size, decls_size, stmt_need, arm_need, block_need}
+use Rattle.ceu_tree.specs.Needs.{apart}
 use Rattle.ceu_tree.proofs.Sizes.{stmt_size, block_size, arm_size, node_list_size, arm_list_size, block_list_size, member_node, member_arm, member_block}
 use Rattle.ceu_slots.specs.declared.layout.SlotPlace.{SlotPlace}
-use Rattle.ceu_slots.specs.Layout.{place, behind, decl_places, byte_places, stmt_places, list_places, arm_places, arm_list_places, block_places, block_list_places}
-
+use Rattle.ceu_slots.specs.Layout.{place, behind, byte_places}
 
 pub next_item : {A : Type 0} (xs : List A) (i : ℕ) (x : A) → x ≡ get_or xs i x → i < length xs → drop i xs ≡ x ∷ drop (i + 1) xs
 next_item xs i x is below = drop-cons xs i x below ∙ ap (λ y. y ∷ drop (suc i) xs) (sym is) ∙ ap (λ n. x ∷ drop n xs) (sym (add-one i))
@@ -38,10 +35,13 @@ fits_next false at size own rest all e h = (most_1 at size own rest all e h, mos
   where
     most_1 : (at size own rest all : ℕ) → all ≡ max size (max own rest) → at + all ≤ 65535 → at + size ≤ 65535
     most_1 at size own rest all e h = grind arith
+
     most_2 : (at size own rest all : ℕ) → all ≡ max size (max own rest) → at + all ≤ 65535 → at + own ≤ 65535
     most_2 at size own rest all e h = grind arith
+
     most_3 : (size own rest all : ℕ) → all ≡ max size (max own rest) → all ≡ max (max size own) rest
     most_3 size own rest all e = grind arith
+
     most_4 : (at size own rest all : ℕ) → all ≡ max size (max own rest) → at + all ≤ 65535 → at + max size own ≤ 65535
     most_4 at size own rest all e h = grind arith
 

@@ -5,7 +5,7 @@
 -- behind them, since one of them runs at a time, and so do all parts of an If. In the plain layout (`plain`) they stand one after the
 -- other. The branches of a par stand side by side, behind the bytes of a par/and. A range has its variable, the next value and the end before its
 -- body, a counted loop its count. A finalizer declares nothing.
-use Rattle.std.specs.Prelude.{◌≡◌, ℕ, zero, suc, ◌+◌, ◌*◌, ◌<◌, ◌==◌, Bool, if◌then◌else◌, List, [], ◌∷◌, ◌++◌, length, slice_index}
+use Rattle.std.specs.Prelude.{ℕ, zero, suc, ◌+◌, ◌*◌, ◌==◌, Bool, if◌then◌else◌, List, [], ◌∷◌, ◌++◌}
 use Rattle.ceu_slots.specs.declared.layout.SlotPlace.{SlotPlace}
 use Rattle.ceu_tree.specs.declared.kernel.Kernel.{Kernel}
 use Rattle.ceu_tree.specs.declared.kernel.KCode.{KCode}

@@ -24,7 +24,7 @@ fn behind(plain: bool, at: u32, size: u32) -> u32
     if plain { at + size } else { at }
 }
 
-fn place_decls(
+pub fn place_decls(
     frames: &[u32],
     at: u32,
     decls: &[KDecl],
@@ -56,13 +56,29 @@ fn place_turns(at: u32, kind: &KLoop, rows: &mut Vec<SlotPlace>) -> Result<u32, 
     match kind {
         KLoop::Free => Ok(0),
         KLoop::Times(count, _) => {
-            rows.push(SlotPlace { slot: u64::from(*count), offset: at, size: 4 })?;
+            rows.push(SlotPlace {
+                slot: u64::from(*count),
+                offset: at,
+                size: 4,
+            })?;
             Ok(4)
         }
         KLoop::Range(variable, next, end, _, _, _, _) => {
-            rows.push(SlotPlace { slot: u64::from(*variable), offset: at, size: 4 })?;
-            rows.push(SlotPlace { slot: u64::from(*next), offset: at + 4, size: 8 })?;
-            rows.push(SlotPlace { slot: u64::from(*end), offset: at + 12, size: 8 })?;
+            rows.push(SlotPlace {
+                slot: u64::from(*variable),
+                offset: at,
+                size: 4,
+            })?;
+            rows.push(SlotPlace {
+                slot: u64::from(*next),
+                offset: at + 4,
+                size: 8,
+            })?;
+            rows.push(SlotPlace {
+                slot: u64::from(*end),
+                offset: at + 12,
+                size: 8,
+            })?;
             Ok(20)
         }
     }
@@ -149,7 +165,11 @@ fn place_frame(
     ensures rows { OnOk result (rows.new.items ≡ rows.old.items ++ (spec.place frame at (need.entry code frames.now) ∷ [])) }
 {
     let size = entry(frames, code);
-    rows.push(SlotPlace { slot: u64::from(frame), offset: at, size })?;
+    rows.push(SlotPlace {
+        slot: u64::from(frame),
+        offset: at,
+        size,
+    })?;
     Ok(size)
 }
 

@@ -3,6 +3,9 @@
 
 mod layout;
 mod needs;
+mod places;
+mod plans;
 
 pub use layout::SlotPlace;
 pub use needs::slot_need;
+pub use places::{OverlapPlaces, Places, PlainPlaces};

@@ -1,7 +1,6 @@
-use Rattle.std.proofs.Common.{◌≡◌, ◌+◌, ◌<◌, ◌≤◌, length, drop, ap, arith}
+use Rattle.std.proofs.Common.{◌+◌, ◌<◌, length, drop, ap, arith}
 use Rattle.ceu_tree.specs.Greatest.{total}
 use Rattle.ceu_tree.specs.Needs as need
-use Rattle.ceu_slots.specs.Layout as spec
 use Rattle.ceu_slots.proofs.Walks.{next_item, fits_next, node_smaller, arm_smaller, block_smaller}
 use Rattle.ceu_slots.proofs.layout.+layout.Goals as goal
 

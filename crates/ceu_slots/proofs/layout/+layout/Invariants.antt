@@ -35,17 +35,17 @@ decreases-place_branches l = 2 * block_list_size l.branches.now
 abbrev pub invariant-place_nodes-loop-node : goal.invariant-place_nodes-loop-node
 invariant-place_nodes-loop-node l = record {
   size : need.joined l.plain (need.node_need l.plain l.frames) l.nodes ≡ need.apart l.plain l.size (need.joined l.plain (need.node_need l.plain l.frames) (drop l.node-index l.nodes));
-  rows : l.initial.rows.items ++ spec.list_places l.plain l.frames l.at l.nodes ≡ l.rows.items ++ spec.list_places l.plain l.frames (spec.behind l.plain l.at l.size) (drop l.node-index l.nodes)
+  rows : l.initial.rows.items ++ spec.list_places l.plain l.frames l.at l.nodes ≡ l.rows.items ++ spec.list_places l.plain l.frames (spec.behind l.plain l.at l.size) (drop l.node-index l.nodes);
 }
 
 abbrev pub invariant-place_arms-loop-arm : goal.invariant-place_arms-loop-arm
 invariant-place_arms-loop-arm l = record {
   size : need.joined l.plain (need.arm_need l.plain l.frames) l.arms ≡ need.apart l.plain l.size (need.joined l.plain (need.arm_need l.plain l.frames) (drop l.arm-index l.arms));
-  rows : l.initial.rows.items ++ spec.arm_list_places l.plain l.frames l.at l.arms ≡ l.rows.items ++ spec.arm_list_places l.plain l.frames (spec.behind l.plain l.at l.size) (drop l.arm-index l.arms)
+  rows : l.initial.rows.items ++ spec.arm_list_places l.plain l.frames l.at l.arms ≡ l.rows.items ++ spec.arm_list_places l.plain l.frames (spec.behind l.plain l.at l.size) (drop l.arm-index l.arms);
 }
 
 abbrev pub invariant-place_branches-loop-branch : goal.invariant-place_branches-loop-branch
 invariant-place_branches-loop-branch l = record {
   size : total (need.block_need l.plain l.frames) l.branches ≡ l.size + total (need.block_need l.plain l.frames) (drop l.branch-index l.branches);
-  rows : l.initial.rows.items ++ spec.block_list_places l.plain l.frames l.at l.branches ≡ l.rows.items ++ spec.block_list_places l.plain l.frames (l.at + l.size) (drop l.branch-index l.branches)
+  rows : l.initial.rows.items ++ spec.block_list_places l.plain l.frames l.at l.branches ≡ l.rows.items ++ spec.block_list_places l.plain l.frames (l.at + l.size) (drop l.branch-index l.branches);
 }

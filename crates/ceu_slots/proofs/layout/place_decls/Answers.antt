@@ -1,8 +1,7 @@
 use Rattle.std.proofs.Common.{◌≡◌, ◌+◌, ◌<◌, ◌≤◌, ◌∷◌, ◌++◌, [], length, drop, ap, arith}
-use Rattle.std.proofs.lemmas.Grind.{common_steps}
 use Rattle.ceu_tree.specs.Needs.{decl_size, decls_size}
 use Rattle.ceu_slots.specs.Layout.{place, decl_places}
-use Rattle.ceu_slots.proofs.Walks.{next_item, goes_on, uncut}
+use Rattle.ceu_slots.proofs.Walks.{next_item, goes_on}
 use Rattle.ceu_slots.proofs.layout.place_decls.Goals as goal
 
 pub loop-decl-preserved : goal.loop-decl-preserved
@@ -23,5 +22,5 @@ loop-decl-preserved c =
       size = omega (arith, here, sum, c.loop-decl.invariant.size);
       rows = rw later (goes_on (c.args.rows.now.items ++ decl_places frames c.args.at c.args.decls.now) c.loop-decl.rows.items c.push.new.self.items (place c.decl-item.result.slot (c.args.at + c.loop-decl.size) size ∷ [])
           (decl_places frames (c.args.at + c.loop-decl.size + size) rest) (decl_places frames (c.args.at + c.loop-decl.size) (drop c.loop-decl.decl-index c.args.decls.now)) (ap (decl_places frames (c.args.at + c.loop-decl.size)) next) c.loop-decl.invariant.rows
-          (rw (start, own, c.from.ensures) at step))
+          (rw (start, own, c.from.ensures) at step));
     }

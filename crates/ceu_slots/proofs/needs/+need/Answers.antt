@@ -1,4 +1,4 @@
-use Rattle.std.proofs.Common.{◌≡◌, ◌<◌, length, get_or, take, ap, sym, add-one, arith}
+use Rattle.std.proofs.Common.{◌<◌, length, take, ap, sym, add-one, arith}
 use Rattle.std.proofs.lemmas.Grind.{common_steps}
 use Rattle.ceu_tree.specs.Needs as spec
 use Rattle.ceu_slots.proofs.NeedSums.{joined_more, cut_apart}

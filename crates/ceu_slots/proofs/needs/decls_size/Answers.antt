@@ -1,8 +1,7 @@
 use Rattle.std.proofs.Common.{◌≡◌, ◌<◌, length, get_or, ap, sym, add-one, arith}
 use Rattle.std.proofs.lemmas.Grind.{common_steps}
-use Rattle.ceu_tree.specs.Needs.{decl_size, decls_size}
+use Rattle.ceu_tree.specs.Needs.{decl_size}
 use Rattle.ceu_tree.specs.declared.kernel.KDecl.{KDecl}
-use Rattle.ceu_tree.proofs.CutLaws.{cut_plus}
 use Rattle.ceu_slots.proofs.NeedSums.{decls_more}
 use Rattle.ceu_slots.proofs.needs.decls_size.Goals as goal
 

@@ -1,9 +1,8 @@
-use Rattle.std.proofs.Common.{◌≡◌, ◌<◌, ◌∙◌, ◌++◌, ◌∷◌, [], length, get_or, take, map, ap, sym, add-one, arith}
+use Rattle.std.proofs.Common.{◌<◌, ◌∷◌, [], length, take, ap, sym, add-one, arith}
 use Rattle.std.proofs.lemmas.List.{map-append}
 use Rattle.std.proofs.lemmas.Grind.{common_steps}
 use Rattle.ceu_tree.specs.Cut.{cut}
 use Rattle.ceu_tree.specs.Needs as spec
-use Rattle.ceu_tree.specs.declared.kernel.KCode.{KCode}
 use Rattle.ceu_slots.proofs.FrameCuts.{frames_more, frame_cut}
 use Rattle.ceu_slots.proofs.needs.frames_of.Goals as goal
 

@@ -1,4 +1,4 @@
-use Rattle.std.proofs.Common.{◌≡◌, [], arith}
+use Rattle.std.proofs.Common.{[], arith}
 use Rattle.std.proofs.lemmas.Grind.{common_steps}
 use Rattle.ceu_tree.specs.Needs as spec
 use Rattle.ceu_tree.proofs.TableLaws.{greatest_cut}
