@@ -1,0 +1,4 @@
+pub mod Counts
+pub mod Grounds
+pub mod Stores
+pub mod Spares
