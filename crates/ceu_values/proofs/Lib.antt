@@ -2,3 +2,4 @@ pub mod Counts
 pub mod Grounds
 pub mod Stores
 pub mod Spares
+pub mod Names
