@@ -3,3 +3,4 @@ pub mod Grounds
 pub mod Stores
 pub mod Spares
 pub mod Names
+pub mod Readies

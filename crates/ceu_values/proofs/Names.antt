@@ -96,7 +96,7 @@ module _ (N : List (List ℕ)) where
 
   -- ---- a declaration is set before it is named
 
-  abbrev set_first_all : ℕ → List KNode → Bool
+  abbrev pub set_first_all : ℕ → List KNode → Bool
   set_first_all slot [] = false
   set_first_all slot (s ∷ ss) = if sets slot s.stmt then count_of slot (stmt_names true N s.stmt) == 1 else (count_of slot (stmt_names true N s.stmt) == 0) && set_first_all slot ss
 
@@ -104,7 +104,7 @@ module _ (N : List (List ℕ)) where
   set_row slot end_of-KNode = refl
   set_row slot (more_of-KNode n p s rest) = ap (λ b. if sets slot s then count_of slot (stmt_names true N s) == 1 else (count_of slot (stmt_names true N s) == 0) && b) (set_row slot rest)
 
-  set_at : (x : ℕ) (done : List KNode) (s : KNode) (rest : List KNode) → set_first_all x (done ++ s ∷ rest) ≡ true
+  pub set_at : (x : ℕ) (done : List KNode) (s : KNode) (rest : List KNode) → set_first_all x (done ++ s ∷ rest) ≡ true
       → (is_set done x ≡ true) ⊎ ((count_of x (stmt_names true N s.stmt) ≡ 0) ⊎ ((sets x s.stmt ≡ true) × (count_of x (stmt_names true N s.stmt) ≡ 1)))
   set_at x [] s rest h = go (sets x s.stmt) refl h
     where
@@ -147,7 +147,7 @@ module _ (N : List (List ℕ)) where
 
   -- ---- the target at the head of a list
 
-  abbrev head_target : List KNode → Option Loc
+  abbrev pub head_target : List KNode → Option Loc
   head_target [] = None
   head_target (s ∷ ss) = await_target s.stmt
 
@@ -155,7 +155,7 @@ module _ (N : List (List ℕ)) where
   first_row end_of-KNode = refl
   first_row (more_of-KNode n p s rest) = refl
 
-  body_target_is : (b : KBlock) → body_target b ≡ head_target (out-KBlock b).list
+  pub body_target_is : (b : KBlock) → body_target b ≡ head_target (out-KBlock b).list
   unfolding out-KBlock Carrier.out
   body_target_is (KBlock' n ds x list) = first_row list ∙ ap head_target (sym (items_shown-the_row-KNode-2 x list))
 
@@ -181,7 +181,7 @@ module _ (N : List (List ℕ)) where
   sets_is x (kernel.Assign l e) = refl
   sets_is x st = refl
 
-  target_sets : (x : ℕ) (st : KStmt) → is_loc x (await_target st) ≡ true → sets x st ≡ true
+  pub target_sets : (x : ℕ) (st : KStmt) → is_loc x (await_target st) ≡ true → sets x st ≡ true
   target_sets x (kernel.Assign l e) h = absurd (false≢true h)
   target_sets x (kernel.Do t b) h = absurd (false≢true h)
   target_sets x (kernel.Unset c) h = absurd (false≢true h)
@@ -189,11 +189,11 @@ module _ (N : List (List ℕ)) where
   target_sets x (kernel.Loop k b) h = absurd (false≢true h)
   target_sets x st h = h
 
-  loc_named : (x : ℕ) (t : Option Loc) → is_loc x t ≡ true → 1 ≤ count_of x (maybe_loc true N t)
+  pub loc_named : (x : ℕ) (t : Option Loc) → is_loc x t ≡ true → 1 ≤ count_of x (maybe_loc true N t)
   loc_named x None h = absurd (false≢true h)
   loc_named x (Some l) h = subst (λ b. 1 ≤ (if b then 1 else 0)) (sym h) (omega arith)
 
-  target_named : (x : ℕ) (st : KStmt) → is_loc x (await_target st) ≡ true → 1 ≤ count_of x (stmt_names true N st)
+  pub target_named : (x : ℕ) (st : KStmt) → is_loc x (await_target st) ≡ true → 1 ≤ count_of x (stmt_names true N st)
   unfolding stmt_names
   target_named x (kernel.AwaitIn k t) h = loc_named x t h
   target_named x (kernel.AwaitTime e u t) h = let a = loc_named x t h in omega (arith, a, count_append x (exp_names true N e) (maybe_loc true N t))
