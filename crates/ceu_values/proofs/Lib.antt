@@ -4,3 +4,4 @@ pub mod Stores
 pub mod Spares
 pub mod Names
 pub mod Readies
+pub mod Evaluated
