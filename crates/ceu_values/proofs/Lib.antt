@@ -5,3 +5,5 @@ pub mod Spares
 pub mod Names
 pub mod Readies
 pub mod Evaluated
+pub mod Positions
+pub mod NeedsAt

@@ -24,11 +24,12 @@ use Rattle.ceu_tree.specs.Mentions.{maybe_loc, exp_names, stmt_names, block_name
 use Rattle.ceu_tree.specs.Proper.{Scope, Seen, SlotKind, IsLoopVariable, find, declared_seen, slot_kind, pool_slots, pools_seen, block_ok}
 use Rattle.ceu_legal.specs.Shape.{Part, ABlock, AStatement, AnEnd, block_scope, part_scope, turn_scope, async_scope, code_scope, code_part, program_part, among_arms, opens_part}
 use Rattle.ceu_values.specs.Ground.{has}
+use Rattle.ceu_values.specs.Needed.{own_variable}
 use Rattle.ceu_values.specs.Ready.{is_cell, declares, stmt_named, block_named, Ready}
 use Rattle.ceu_values.proofs.Names.{count_append, list_names_all, blocks_names_all, arms_names_all, layer_names, block_names_is, stmt_names_is, set_first_all, set_at, declared_static, head_target, body_target_is, layer_sets, sets_is, target_sets, loc_named, target_named}
 
 -- what is seen inside a block is declared there or seen around it
-find_cell : (x : ℕ) (pools : List ℕ) (ds : List KDecl) (seen : List Seen) → is_cell (find x (declared_seen pools ds seen)) ≡ true → (declares x ds ≡ true) ⊎ (is_cell (find x seen) ≡ true)
+pub find_cell : (x : ℕ) (pools : List ℕ) (ds : List KDecl) (seen : List Seen) → is_cell (find x (declared_seen pools ds seen)) ≡ true → (declares x ds ≡ true) ⊎ (is_cell (find x seen) ≡ true)
 find_cell x pools [] seen h = inr h
 find_cell x pools (d ∷ ds) seen h = go (d.slot == x) h (find_cell x pools ds seen)
   where
@@ -143,10 +144,6 @@ module _ (K : Kernel) (body : Body) (w : World) where
       go x (inr (inr a)) = absurd (false≢true a.0)
 
   -- a loop's own variable has a value in its turns
-  abbrev pub own_variable : ℕ → KLoop → Bool
-  own_variable x (turns.Range i next end open_a a b open_b) = i == x
-  own_variable x k = false
-
   abbrev Turning : ℕ → KBlock → Type 0
   Turning x b = (has body x w ≡ true) ⊎ ((block_named K x b ≡ 0) ⊎ ((true ≡ true) × (is_loc x (body_target b) ≡ true) × (block_named K x b ≡ 1)))
 

@@ -1,3 +1,4 @@
 pub mod Ground
 pub mod Ready
+pub mod Needed
 pub mod Laws
