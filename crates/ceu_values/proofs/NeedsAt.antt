@@ -22,7 +22,7 @@ use Rattle.ceu_tree.specs.Mentions.{is_loc, await_target, body_target}
 use Rattle.ceu_tree.specs.Numbering.{counts_from, decl_slots, loop_slots, stmt_slots, stmt_nodes, block_slots, block_nodes}
 use Rattle.ceu_tree.specs.Proper.{Scope, SlotKind, IsVariable, IsLoopVariable, IsPool, IsAlias, find, pool_slots, pools_seen, is_in_code, is_trail, is_proper, stmt_ok, declared_seen, variable_ty, has_ty, looked_up, reads, takes, takes_if, on_ty, on_code, is_above, port_ty, event_seen, event_at, time_ok, gives_all}
 use Rattle.ceu_legal.specs.Shape.{Part, ABlock, AStatement, AnEnd, block_scope, part_scope, turn_scope, async_scope, opens_part, Fits, to_begin, to_turn, in_list, to_finish, at_input, at_time, at_event, at_forever, at_async, in_part, in_turn, in_call, in_par, EachFits, no_more, an_ended, a_branch, AllFit, FrameFits, around_statement, around_end, around_instance, around_part, around_turn, around_call, around_branch, Around, nothing_around, one_around}
-use Rattle.ceu_legal.proofs.Static.{BlockOk, StmtOk, nodes_fine, block_static, names_of, layer_fine}
+use Rattle.ceu_legal.proofs.Static.{BlockOk, StmtOk, nodes_fine, each_fine, block_static, names_of, layer_fine}
 use Rattle.ceu_legal.proofs.UpFits.{Sound, layer_of, list_sound, part_sound, frame_sound, each_at}
 use Rattle.ceu_values.specs.Ground.{Ground, Numbered, On}
 use Rattle.ceu_values.specs.Ready.{is_cell, declares}
@@ -170,3 +170,136 @@ module _ (K : Kernel) (proper : is_proper K ≡ true) (plain : K.codes ≡ []) w
       go : (own_variable x k ≡ true) ⊎ (is_cell (find x sc.seen) ≡ true) → Placed sc g x
       go (inl o) = own_placed sc s k b g x q on o
       go (inr c) = inr c
+
+  list_case : (sc : Scope) (b : KBlock) (g h : Ground) (done : List KNode) (r : Residual) (x : ℕ) → BlockOk K (names_of K) sc b → Low sc g → counts_from g.low (decl_slots (out-KBlock b).decls) ≡ true
+      → g.low + length (decl_slots (out-KBlock b).decls) ≤ g.high → Inner h g → (block_needs b done x ≡ true) ⊎ (needs r x ≡ true) → (needs r x ≡ true → Placed (block_scope sc b) h x) → Placed sc g x
+  list_case sc b g h done r x ok low c l i (inl e) ih = block_placed sc b done g x ok low c l e
+  list_case sc b g h done r x ok low c l i (inr e) ih = from_list sc b h g x c l i (ih e)
+
+  turn_case : (sc : Scope) (s : KNode) (k : KLoop) (b : KBlock) (g h : Ground) (r : Residual) (x : ℕ) → out-KStmt s.stmt ≡ KStmt-F.Loop k b → Numbered (stmt_slots s.stmt) (s.node ∷ stmt_nodes s.stmt) g
+      → Inner h g → (turn_needs (out-KStmt s.stmt) x ≡ true) ⊎ (needs r x ≡ true) → (needs r x ≡ true → Placed (turn_scope K sc s.node k) h x) → Placed sc g x
+  turn_case sc s k b g h r x e on i (inl q) ih = own_placed sc s k b g x e on (turn_is s (KStmt-F.Loop k b) x e q)
+  turn_case sc s k b g h r x e on i (inr q) ih = from_turn sc s k b h g x e on i (ih q)
+
+  branch_case : (sc : Scope) (h j g : Ground) (r : Residual) (more : Branches) (x : ℕ) → Inner h g → Inner j g → (needs r x ≡ true) ⊎ (each_needs more x ≡ true) → (needs r x ≡ true → Placed sc h x)
+      → (each_needs more x ≡ true → Placed sc j x) → Placed sc g x
+  branch_case sc h j g r more x p q (inl e) a b = widen sc h g x p (a e)
+  branch_case sc h j g r more x p q (inr e) a b = widen sc j g x q (b e)
+
+  -- ---- what a part needs
+
+  mutual
+    unfolding needs
+
+    pub needs_placed : {t : ℕ} {d : Part} {r : Residual} → Fits K t d r → (g : Ground) (x : ℕ) → On d g → LowAt d g → Sound K proper d → needs r x ≡ true → PlacedAt d g x
+    needs_placed (to_begin l) g x on low ok h = absurd (false≢true h)
+    needs_placed (to_turn l p) g x on low ok h = absurd (false≢true h)
+    needs_placed (in_list {sc = sc} {b = b} {rest = rest} {r = r} {s = s} done e f all fit) g x on low ok h =
+        let i = list_ground b done s rest g e on in
+        let c = or_cases (block_needs b (before (out-KBlock b).list rest) x) (needs r x) h in
+        list_case sc b g i.ground (before (out-KBlock b).list rest) r x ok low i.declared i.declared_to i.inner c (needs_placed fit i.ground x i.on (low_list sc b s g i low) (list_sound K proper sc b done s rest ok e))
+    needs_placed (to_finish l p) g x on low ok h = absurd (false≢true h)
+    needs_placed (at_input q e) g x on low ok h = absurd (false≢true h)
+    needs_placed (at_time q u y e) g x on low ok h = absurd (false≢true h)
+    needs_placed (at_event q e) g x on low ok h = absurd (false≢true h)
+    needs_placed (at_forever e) g x on low ok h = absurd (false≢true h)
+    needs_placed (at_async {sc = sc} {s = s} b e fit) g x on low ok h =
+        let i = inner_ground s (KStmt-F.Async b) g e on in
+        let l = low_inner sc g i.ground i.inner low in
+        widen sc i.ground g x i.inner (needs_placed fit i.ground x i.on (record { seen = l.seen; main = l.main }) (layer_of K proper sc s (KStmt-F.Async b) e ok).1 h)
+    needs_placed (in_part {sc = sc} {s = s} b o fit) g x on low ok h =
+        let i = part_ground s b g o on in
+        from_part sc s.node (out-KStmt s.stmt) b i.ground g x o i.inner
+        (needs_placed fit i.ground x i.on (low_part K sc s.node (out-KStmt s.stmt) b g i.ground o i.inner low) (part_sound K proper sc s.node (out-KStmt s.stmt) b (layer_of K proper sc s (out-KStmt s.stmt) refl ok) o) h)
+    needs_placed (in_turn {sc = sc} {s = s} {r = r} k b e c fit) g x on low ok h =
+        let i = inner_ground s (KStmt-F.Loop k b) g e on in
+        turn_case sc s k b g i.ground r x e on i.inner (or_cases (turn_needs (out-KStmt s.stmt) x) (needs r x) h)
+        (needs_placed fit i.ground x i.on (low_turn K sc s k b g i e on low) (layer_of K proper sc s (KStmt-F.Loop k b) e ok))
+    needs_placed (in_call c es f t k e q fit) g x on low ok h = absurd (no_code c k q)
+    needs_placed (in_par {sc = sc} {s = s} k slot bs e q fit) g x on low ok h =
+        let i = inner_ground s (KStmt-F.Par k slot bs) g e on in
+        widen sc i.ground g x i.inner (each_placed fit i.ground x i.on (low_inner sc g i.ground i.inner low) (layer_of K proper sc s (KStmt-F.Par k slot bs) e ok).1 h)
+
+    pub each_placed : {t : ℕ} {sc : Scope} {k : ParKind} {bs : List KBlock} {rs : Branches} → EachFits K t sc k bs rs → (g : Ground) (x : ℕ) → Numbered (blocks_slots_all bs) (blocks_nodes_all bs) g → Low sc g
+        → each_fine K (names_of K) sc bs → each_needs rs x ≡ true → Placed sc g x
+    each_placed no_more g x on low ok h = absurd (false≢true h)
+    each_placed {sc = sc} (an_ended {b = b} {bs = bs} m rest) g x on low ok h =
+        let i = halves (block_slots b) (blocks_slots_all bs) (block_nodes b) (blocks_nodes_all bs) g on in
+        widen sc i.right g x i.inner_right (each_placed rest i.right x i.on_right (low_inner sc g i.right i.inner_right low) ok.1 h)
+    each_placed {sc = sc} (a_branch {b = b} {bs = bs} {r = r} {more = more} fit rest) g x on low ok h =
+        let i = halves (block_slots b) (blocks_slots_all bs) (block_nodes b) (blocks_nodes_all bs) g on in
+        branch_case sc i.left i.right g r more x i.inner_left i.inner_right (or_cases (needs r x) (each_needs more x) h)
+        (needs_placed fit i.left x i.on_left (low_inner sc g i.left i.inner_left low) ok.0) (each_placed rest i.right x i.on_right (low_inner sc g i.right i.inner_right low) ok.1)
+
+  -- ---- a frame: what it needs lies beside the ground of the part inside
+
+  pub record FrameGround (fr : Frame) (d e : Part) (g : Ground) : Type 0 where
+    pub ground : Ground
+    pub on : On e ground
+    pub low : LowAt e ground
+    pub inner : Inner ground g
+    pub apart : (x : ℕ) (first : Bool) → frame_needs fr first x ≡ true → Beside ground x
+
+  beside_low : (sc : Scope) (h : Ground) (x : ℕ) → Low sc h → is_cell (find x sc.seen) ≡ true → Beside h x
+  beside_low sc h x l c = inl (l.seen x c)
+
+  block_beside : (sc : Scope) (b : KBlock) (done : List KNode) (s : KNode) (g : Ground) (i : InBlock b s g) (x : ℕ) → BlockOk K (names_of K) sc b → Low sc g → block_needs b done x ≡ true → Beside i.ground x
+  block_beside sc b done s g i x ok low h = go (or_cases (declares x (out-KBlock b).decls && is_set done x) (is_loc x (body_target b) && some_done done) h)
+    where
+      go : ((declares x (out-KBlock b).decls && is_set done x) ≡ true) ⊎ ((is_loc x (body_target b) && some_done done) ≡ true) → Beside i.ground x
+      go (inl e) = let a = declared_within x (out-KBlock b).decls g.low i.declared (and_parts (declares x (out-KBlock b).decls) (is_set done x) e).0 in inl (omega (arith, a.1, i.behind))
+      go (inr e) = beside_low (block_scope sc b) i.ground x (low_list sc b s g i low) (head_cell sc b x ok low.main (and_parts (is_loc x (body_target b)) (some_done done) e).0)
+
+  before_beside : (sc : Scope) (b h : Ground) (x : ℕ) → b.high ≤ h.low → Low sc h → Placed sc b x → Beside h x
+  before_beside sc b h x q l (inl p) = inl (omega (arith, p.1, q))
+  before_beside sc b h x q l (inr c) = inl (l.seen x c)
+
+  after_beside : (sc : Scope) (b h : Ground) (x : ℕ) → h.high ≤ b.low → Low sc h → Placed sc b x → Beside h x
+  after_beside sc b h x q l (inl p) = inr (omega (arith, p.0, q))
+  after_beside sc b h x q l (inr c) = inl (l.seen x c)
+
+  beside_branch : (sc : Scope) (b h a : Ground) (front back : Branches) (x : ℕ) → b.high ≤ h.low → h.high ≤ a.low → Low sc h → (each_needs front x ≡ true) ⊎ (each_needs back x ≡ true)
+      → (each_needs front x ≡ true → Placed sc b x) → (each_needs back x ≡ true → Placed sc a x) → Beside h x
+  beside_branch sc b h a front back x p q l (inl e) m n = before_beside sc b h x p l (m e)
+  beside_branch sc b h a front back x p q l (inr e) m n = after_beside sc a h x q l (n e)
+
+  each_halves : (sc : Scope) (bs cs : List KBlock) → each_fine K (names_of K) sc (bs ++ cs) → each_fine K (names_of K) sc bs × each_fine K (names_of K) sc cs
+  each_halves sc [] cs h = (tt, h)
+  each_halves sc (b ∷ bs) cs h = let a = each_halves sc bs cs h.1 in ((h.0, a.0), a.1)
+
+  frame_ground_end : (fr : Frame) (d : Part) (slots nodes : List ℕ) (g : Ground) → Numbered slots nodes g → FrameGround fr d AnEnd g
+  frame_ground_end fr d slots nodes g on = record {
+    ground = record { low = g.high; high = g.high; first = g.last; last = g.last };
+    on = tt;
+    low = tt;
+    inner = record { low = omega (arith, on.slots_to); high = omega arith; first = omega (arith, on.nodes_to); last = omega arith };
+    apart = λ x first h. cases_lt x g.high;
+  }
+
+  pub frame_ground : {t : ℕ} {fr : Frame} {d e : Part} → FrameFits K t fr d e → (g : Ground) → On d g → LowAt d g → Sound K proper d → FrameGround fr d e g
+  frame_ground (around_statement {sc = sc} {b = b} {rest = rest} {s = s} done e f all) g on low ok =
+      let i = list_ground b done s rest g e on in
+      record { ground = i.ground; on = i.on; low = low_list sc b s g i low; inner = i.inner; apart = λ x first h. block_beside sc b (before (out-KBlock b).list rest) s g i x ok low h }
+  frame_ground (around_end {turn = turn} {sc = sc} {b = b} {fin = fin} {all = all} f q) g on low ok = frame_ground_end (OfBlock b fin all []) (ABlock turn sc b) (block_slots b) (block_nodes b) g on
+  frame_ground (around_instance {seat = seat} done k e f r before after p c) g on low ok = absurd (no_code seat.code k c)
+  frame_ground (around_part {sc = sc} {s = s} b o) g on low ok =
+      let i = part_ground s b g o on in
+      record { ground = i.ground; on = i.on; low = low_part K sc s.node (out-KStmt s.stmt) b g i.ground o i.inner low; inner = i.inner; apart = λ x first h. absurd (false≢true h) }
+  frame_ground (around_turn {sc = sc} {s = s} k b e c) g on low ok =
+      let i = inner_ground s (KStmt-F.Loop k b) g e on in
+      record {
+        ground = i.ground; on = i.on; low = low_turn K sc s k b g i e on low; inner = i.inner;
+        apart = λ x first h. (let a = and_parts (not first) (turn_needs (out-KStmt s.stmt) x) h in let q = turn_is s (KStmt-F.Loop k b) x e a.1 in
+        let z = own_is s k b g x e on q in let y = own_room s k b g x e on q in inl (omega (arith, z, y.1, i.behind)));
+      }
+  frame_ground (around_call c es f t k e q) g on low ok = absurd (no_code c k q)
+  frame_ground (around_branch {sc = sc} {s = s} {before = front} {after = back} k slot bs b cs e p q) g on low ok =
+      let i = inner_ground s (KStmt-F.Par k slot (bs ++ b ∷ cs)) g e on in
+      let j = branch_ground bs b cs i.ground i.on in
+      let l = low_inner sc g i.ground i.inner low in
+      let fine = each_halves sc bs (b ∷ cs) (layer_of K proper sc s (KStmt-F.Par k slot (bs ++ b ∷ cs)) e ok).1 in
+      record {
+        ground = j.ground; on = j.on; low = low_inner sc i.ground j.ground j.inner l; inner = inner_then j.ground i.ground g j.inner i.inner;
+        apart = λ x first h. beside_branch sc j.before j.ground j.after front back x j.slots_before j.slots_after (low_inner sc i.ground j.ground j.inner l) (or_cases (each_needs front x) (each_needs back x) h)
+            (each_placed p j.before x j.on_before (low_inner sc i.ground j.before j.inner_before l) fine.0) (each_placed q j.after x j.on_after (low_inner sc i.ground j.after j.inner_after l) fine.1.1);
+      }
