@@ -7,3 +7,4 @@ pub mod Readies
 pub mod Evaluated
 pub mod Positions
 pub mod NeedsAt
+pub mod FocusSpares
