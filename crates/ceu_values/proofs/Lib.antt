@@ -8,3 +8,4 @@ pub mod Evaluated
 pub mod Positions
 pub mod NeedsAt
 pub mod FocusSpares
+pub mod UpValues
