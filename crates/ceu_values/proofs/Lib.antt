@@ -9,3 +9,4 @@ pub mod Positions
 pub mod NeedsAt
 pub mod FocusSpares
 pub mod UpValues
+pub mod ThroughValues

@@ -65,34 +65,34 @@ pub record UpFine (d : Part) (g : Ground) (w : World) (m : Moved) : Type 0 where
 
 -- ---- statements that set nothing, or that no await is
 
-abbrev awaits : Layer → Option Loc
+abbrev pub awaits : Layer → Option Loc
 awaits (KStmt-F.AwaitIn k t) = t
 awaits (KStmt-F.AwaitTime e u t) = t
 awaits (KStmt-F.AwaitEvent e t) = t
 awaits (KStmt-F.AwaitCode c es f t) = t
 awaits layer = None
 
-awaits_is : (st : KStmt) → await_target st ≡ awaits (out-KStmt st)
+pub awaits_is : (st : KStmt) → await_target st ≡ awaits (out-KStmt st)
 unfolding out-KStmt Carrier.out
 awaits_is (kernel.AwaitIn k t) = refl
 awaits_is st = refl
 
-no_await : (s : KNode) (layer : Layer) (y : ℕ) → out-KStmt s.stmt ≡ layer → is_loc y (awaits layer) ≡ false → is_loc y (await_target s.stmt) ≡ true → ⊥
+pub no_await : (s : KNode) (layer : Layer) (y : ℕ) → out-KStmt s.stmt ≡ layer → is_loc y (awaits layer) ≡ false → is_loc y (await_target s.stmt) ≡ true → ⊥
 no_await s layer y e h k = false≢true (sym h ∙ sym (ap (is_loc y) (awaits_is s.stmt ∙ ap awaits e)) ∙ k)
 
-opens_no_await : (layer : Layer) (b : KBlock) (y : ℕ) → opens_part layer b → is_loc y (awaits layer) ≡ false
+pub opens_no_await : (layer : Layer) (b : KBlock) (y : ℕ) → opens_part layer b → is_loc y (awaits layer) ≡ false
 opens_no_await (KStmt-F.Do t c) b y o = refl
 opens_no_await (KStmt-F.If arms last) b y o = refl
 opens_no_await layer b y o = elim o [ ]
 
-finalizer_sets : (st : KStmt) (y : ℕ) → is_finalizer st ≡ true → sets y st ≡ true → ⊥
+pub finalizer_sets : (st : KStmt) (y : ℕ) → is_finalizer st ≡ true → sets y st ≡ true → ⊥
 finalizer_sets (kernel.Finalize b) y h e = false≢true e
 finalizer_sets st y h e = false≢true h
 
-layer_set : (N : List (List ℕ)) (s : KNode) (layer : Layer) (y : ℕ) → out-KStmt s.stmt ≡ layer → sets y s.stmt ≡ true → layer_sets N y layer ≡ true
+pub layer_set : (N : List (List ℕ)) (s : KNode) (layer : Layer) (y : ℕ) → out-KStmt s.stmt ≡ layer → sets y s.stmt ≡ true → layer_sets N y layer ≡ true
 layer_set N s layer y e h = sym (sets_is N y s.stmt ∙ ap (layer_sets N y) e) ∙ h
 
-assigned_has : (t : Option Loc) (v : ℤ) (y : ℕ) (w : World) → is_loc y t ≡ true → has Program y (assign_if Program t v w) ≡ true
+pub assigned_has : (t : Option Loc) (v : ℤ) (y : ℕ) (w : World) → is_loc y t ≡ true → has Program y (assign_if Program t v w) ≡ true
 assigned_has None v y w h = absurd (false≢true h)
 assigned_has (Some l) v y w h = subst (λ z. has Program z (assign_if Program (Some l) v w) ≡ true) (eqb-true l.slot y h) (go l.outer)
   where
@@ -100,7 +100,7 @@ assigned_has (Some l) v y w h = subst (λ z. has Program z (assign_if Program (S
     go true = set_has Program l.slot (Holds v) w
     go false = set_has Program l.slot (Holds v) w
 
-frame_later : (fr : Frame) (b : Bool) (y : ℕ) → frame_needs fr b y ≡ true → frame_needs fr false y ≡ true
+pub frame_later : (fr : Frame) (b : Bool) (y : ℕ) → frame_needs fr b y ≡ true → frame_needs fr false y ≡ true
 frame_later (OfBlock b fin all rest) t y h = h
 frame_later (OfInstance b fin front seat back r rest) t y h = h
 frame_later (OfOpen s) t y h = h
@@ -108,7 +108,7 @@ frame_later (OfLoop s c) t y h = (and_parts (not t) (turn_needs (out-KStmt s.stm
 frame_later (OfCall s) t y h = h
 frame_later (OfPar s front back) t y h = h
 
-each_joined : (front back : Branches) (r : Residual) (y : ℕ) → each_needs (join front (branch r back)) y ≡ true → ((each_needs front y || each_needs back y) ≡ true) ⊎ (needs r y ≡ true)
+pub each_joined : (front back : Branches) (r : Residual) (y : ℕ) → each_needs (join front (branch r back)) y ≡ true → ((each_needs front y || each_needs back y) ≡ true) ⊎ (needs r y ≡ true)
 unfolding each_needs
 each_joined no_branch back r y h = go (or_cases (needs r y) (each_needs back y) h)
   where
@@ -143,7 +143,7 @@ module _ (K : Kernel) (proper : is_proper K ≡ true) (plain : K.codes ≡ []) w
   fill_needs (around_call c es f t k e z) r y h = absurd (no_code K proper plain c k z)
   fill_needs (around_branch {before = front} {after = back} k slot bs b cs e p q) r y h = each_joined front back r y h
 
-  plain_body : {t : ℕ} {fr : Frame} {d e : Part} → FrameFits K t fr d e → body_in fr Program ≡ Program
+  pub plain_body : {t : ℕ} {fr : Frame} {d e : Part} → FrameFits K t fr d e → body_in fr Program ≡ Program
   plain_body (around_statement done e f all) = refl
   plain_body (around_end f all) = refl
   plain_body (around_instance {seat = seat} done k e f q front back z c) = absurd (no_code K proper plain seat.code k c)
@@ -170,7 +170,7 @@ module _ (K : Kernel) (proper : is_proper K ≡ true) (plain : K.codes ≡ []) w
       go (inl u) = let a = and_parts (declares y (out-KBlock b).decls) (is_set (done ++ s ∷ []) y) u in new a.0 (set_more y done s a.1)
       go (inr u) = head done refl (and_parts (is_loc y (body_target b)) (some_done (done ++ s ∷ [])) u).0
 
-  next_needs : (sc : Scope) (b : KBlock) (fin : List KNode) (all : Instances) (done : List KNode) (s : KNode) (rest : List KNode) (g : Ground) (w : World) (y : ℕ) → (out-KBlock b).list ≡ done ++ s ∷ rest → Numbered (block_slots b) (block_nodes b) g → Low sc g
+  pub next_needs : (sc : Scope) (b : KBlock) (fin : List KNode) (all : Instances) (done : List KNode) (s : KNode) (rest : List KNode) (g : Ground) (w : World) (y : ℕ) → (out-KBlock b).list ≡ done ++ s ∷ rest → Numbered (block_slots b) (block_nodes b) g → Low sc g
       → BlockOk K (names_of K) sc b → ((z : ℕ) → block_needs b (before (out-KBlock b).list rest) z ≡ true → has Program z w ≡ true) → SetNow (block_scope sc b) s w
       → focus_needs (In (OfBlock b fin all (rest_of rest)) (Here (next_of rest))) y ≡ true → has Program y w ≡ true
   unfolding focus_needs
