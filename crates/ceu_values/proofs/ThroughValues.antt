@@ -14,7 +14,7 @@ use Rattle.ceu_tree.specs.declared.kernel.KStmt as kernel
 use Rattle.ceu_tree.specs.declared.kernel.KStmt.{KStmt, out-KStmt}
 use Rattle.ceu_tree.specs.declared.kernel.KStmt.TheOpen.{KStmt-F}
 use Rattle.ceu_tree.specs.Residual.{Body, Program, Act, Begin, Start, Finish, AtEnd, AtHead, Again, Counter, Free, Turns, Upward, Residual, Over, Run, Block, Open, Loop, Call, Par, Branches, no_branch, branch, Instances}
-use Rattle.ceu_tree.specs.Focus.{Frame, OfBlock, OfInstance, OfOpen, OfLoop, OfCall, OfPar, Focus, Here, In, join, fill, plug, body_in}
+use Rattle.ceu_tree.specs.Focus.{Frame, OfBlock, OfInstance, OfOpen, OfLoop, OfCall, OfPar, Focus, Here, In, join, fill, plug, leaf, body_in}
 use Rattle.ceu_tree.specs.World.{World, Holds, set, assign_if}
 use Rattle.ceu_tree.specs.Abort.{aborted, branches_aborted, closed, forget_loop}
 use Rattle.ceu_tree.specs.Leaf.{Layer, Exit, Escape, Break, Continue, target, target_of, next_of, rest_of}
@@ -31,7 +31,7 @@ use Rattle.ceu_values.specs.Ready.{is_cell, declares}
 use Rattle.ceu_values.specs.Needed.{some_done, block_needs, own_variable, turn_needs, needs, each_needs, at_first_head, frame_needs, focus_needs}
 use Rattle.ceu_values.proofs.Counts.{Inner, inner_then}
 use Rattle.ceu_values.proofs.Grounds.{InStatement, inner_ground, InBranches, branch_ground, hidden_counts}
-use Rattle.ceu_values.proofs.Stores.{or_left, or_right, set_keeps, set_has, assign_if_keeps}
+use Rattle.ceu_values.proofs.Stores.{never_true, or_left, or_right, set_keeps, set_has, assign_if_keeps}
 use Rattle.ceu_values.proofs.Names.{head_target, body_target_is, layer_sets, sets_is, target_sets}
 use Rattle.ceu_values.proofs.Spares.{turns_spared, each_spares}
 use Rattle.ceu_values.proofs.Positions.{before_at, set_more, declared_cell, Low, Beside, beside_outside, beside_inner}
@@ -168,3 +168,116 @@ module _ (K : Kernel) (proper : is_proper K ≡ true) (plain : K.codes ≡ []) (
       go : (t : Bool) → UpFine (AStatement sc s) g w (if t then moved Past w else moved (Rests (Par s (join front (branch Over back)))) w)
       go true = past sc s g w w (sets_nothing s (KStmt-F.Par par.And slot bs) w sc e (λ y. refl)) (λ y p h. h)
       go false = record { needed = λ y h. needed y (each_joined front back Over y h); comes = tt; spares = λ y p h. h }
+
+  -- ---- one frame
+
+  body_leaves_fine : (t : Bool) (turn : Bool) (sc : Scope) (b : KBlock) (fin : List KNode) (all : Instances) (done : List KNode) (s : KNode) (rest : List KNode) (f : Focus Act) (c : Part) (g : Ground) (w : World) (node : ℕ) (x : Exit)
+      → (out-KBlock b).list ≡ done ++ s ∷ rest → AllFit K (suc n) sc all → Numbered (block_slots b) (block_nodes b) g → ((y : ℕ) → Beside g y → has Program y w ≡ true → has Program y (aborted (plug f Over) Program w) ≡ true)
+      → ((y : ℕ) → block_needs b (before (out-KBlock b).list rest) y ≡ true → has Program y w ≡ true) → ((y : ℕ) → is_loc y (await_target s.stmt) ≡ true → ⊥) → UpFine (ABlock turn sc b) g w (body_left t b fin all f Program node x w)
+  body_leaves_fine true turn sc b fin all done s rest f c g w node x e fit on sp own never =
+      ended (ABlock turn sc b) g (value_with x) w (closed b fin all Program (aborted (plug f Over) Program w)) (λ y p h. closed_spares K proper plain y b fin g (aborted (plug f Over) Program w) fit on p (sp y p h))
+  body_leaves_fine false turn sc b fin all done s rest f c g w node x e fit on sp own never = record { needed = λ y h. absurd (false≢true h); comes = λ y cell h. go y done refl h; spares = λ y p h. h }
+    where
+      go : (y : ℕ) (ds : List KNode) → done ≡ ds → is_loc y (body_target b) ≡ true → has Program y w ≡ true
+      go y [] q h = absurd (never y (subst (λ l. is_loc y (head_target N l) ≡ true) (e ∙ ap (λ l. l ++ s ∷ rest) q) (sym (ap (is_loc y) (body_target_is N b)) ∙ h)))
+      go y (d ∷ ds) q h =
+          own y (subst (λ l. block_needs b l y ≡ true) (sym (before_at b done s rest e))
+          (or_right (declares y (out-KBlock b).decls && is_set done y) (is_loc y (body_target b) && some_done done) (and_from (is_loc y (body_target b)) (some_done done) h (ap some_done q))))
+
+  part_leaves_fine : (t : Bool) (sc : Scope) (s : KNode) (b : KBlock) (f : Focus Act) (g : Ground) (w : World) (node : ℕ) (x : Exit) → opens_part (out-KStmt s.stmt) b
+      → ((y : ℕ) → Beside g y → has Program y w ≡ true → has Program y (aborted (plug f Over) Program w) ≡ true) → UpFine (AStatement sc s) g w (open_left t s f Program node x w)
+  part_leaves_fine true sc s b f g w node x o sp =
+      past sc s g w (assign_if Program (target s) (value_with x) (aborted (plug f Over) Program w)) (opened_set s (out-KStmt s.stmt) b (value_with x) _ sc refl o) (λ y p h. assign_if_keeps Program y Program (target s) (value_with x) (aborted (plug f Over) Program w) (sp y p h))
+  part_leaves_fine false sc s b f g w node x o sp = record { needed = λ y h. absurd (false≢true h); comes = λ y h. no_await s (out-KStmt s.stmt) y refl (opens_no_await (out-KStmt s.stmt) b y o) h; spares = λ y p h. h }
+
+  next_turn_fine : (sc : Scope) (s : KNode) (k : KLoop) (b : KBlock) (c : Counter) (g : Ground) (w : World) (layer : Layer) → out-KStmt s.stmt ≡ KStmt-F.Loop k b → KStmt-F.Loop k b ≡ layer → counts k c ≡ true
+      → Numbered (stmt_slots s.stmt) (s.node ∷ stmt_nodes s.stmt) g → UpFine (AStatement sc s) g w (next_turn s layer c Program w)
+  next_turn_fine sc s k b c g w layer e q h on = subst (λ l. UpFine (AStatement sc s) g w (next_turn s l c Program w)) q (begun_fine sc s k b c g w e h on)
+
+  branches_spare : (sc : Scope) (s : KNode) (k : ParKind) (slot : ℕ) (bs : List KBlock) (b : KBlock) (cs : List KBlock) (front back : Branches) (g : Ground) → out-KStmt s.stmt ≡ KStmt-F.Par k slot (bs ++ b ∷ cs)
+      → EachFits K (suc n) sc k bs front → EachFits K (suc n) sc k cs back → Numbered (stmt_slots s.stmt) (s.node ∷ stmt_nodes s.stmt) g
+      → (w : World) (y : ℕ) → Beside g y → has Program y w ≡ true → has Program y (branches_aborted (join front (branch Over back)) Program w) ≡ true
+  unfolding aborted
+  branches_spare sc s k slot bs b cs front back g e p q on w y o h =
+      let i = inner_ground s (KStmt-F.Par k slot (bs ++ b ∷ cs)) g e on in
+      let j = branch_ground bs b cs i.ground i.on in
+      let l = beside_inner i.ground g y i.inner o in
+      subst (λ v. has Program y v ≡ true) (sym (branches_joined front (branch Over back) Program w))
+      (each_spares K proper Program y p Program j.before (branches_aborted back Program w) j.on_before (beside_outside j.before (numbers_among front) y (beside_inner j.before i.ground y j.inner_before l))
+      (each_spares K proper Program y q Program j.after w j.on_after (beside_outside j.after (numbers_among back) y (beside_inner j.after i.ground y j.inner_after l)) h))
+
+  module _ (f : Focus Act) (x : Outcome) (w : World) where
+    -- what the frame needs once the trail has left the head of its loop
+    past_head : (fr : Frame) → ((y : ℕ) → frame_needs fr (at_first_head f) y ≡ true → has Program y w ≡ true) → (at_first_head f ≡ true → is_head_outcome x ≡ true) → is_head_outcome x ≡ false
+        → (y : ℕ) → frame_needs fr false y ≡ true → has Program y w ≡ true
+    past_head fr own first e y h = own y (subst (λ b. frame_needs fr b y ≡ true) (sym (never_true (at_first_head f) (λ u. false≢true (sym e ∙ first u)))) h)
+
+  through_fine : (fr : Frame) (f : Focus Act) (x : Outcome) (w : World) (d e c : Part) (g : Ground) → On d g → LowAt d g → Sound K proper d → FrameFits K (suc n) fr d e → Around K (suc n) Act f e c → Comes K n e x → OutcomeHas x e w
+      → ((y : ℕ) → frame_needs fr (at_first_head f) y ≡ true → has Program y w ≡ true) → (at_first_head f ≡ true → is_head_outcome x ≡ true) → ((y : ℕ) → outcome_needs x y ≡ true → has Program y w ≡ true) → UpFine d g w (through Program fr f x w)
+  through_fine fr f (Goes q) w d e c g on low ok a more k now own first need = record { needed = later_needs fr q w (past_head f (Goes q) w fr own first refl) need; comes = tt; spares = λ y p h. h }
+  through_fine fr f (Rests r) w d e c g on low ok a more k now own first need = record { needed = filled_needs fr a r w (past_head f (Rests r) w fr own first refl) need; comes = tt; spares = λ y p h. h }
+  through_fine fr f (Raises r) w d e c g on low ok a more k now own first need = record { needed = filled_needs fr a r w (past_head f (Raises r) w fr own first refl) need; comes = tt; spares = λ y p h. h }
+  through_fine fr f (Fails z r) w d e c g on low ok a more k now own first need = record { needed = λ y h. absurd (false≢true h); comes = tt; spares = λ y p h. h }
+  through_fine (OfBlock b fin all rest) f Past w d e c g on low ok (around_statement {sc = sc} {s = s} done q z i) more k now own first need =
+      record { needed = λ y h. next_needs K proper plain sc b fin all done s rest g w y q on low ok own now h; comes = tt; spares = λ y p h. h }
+  through_fine (OfBlock b fin all rest) f (Registers v) w d e c g on low ok (around_statement {sc = sc} {s = s} done q z i) more k now own first need =
+      record { needed = λ y h. next_needs K proper plain sc b (v ∷ fin) all done s rest g w y q on low ok own (λ u cell t. absurd (finalizer_sets s.stmt u k.1 t)) h; comes = tt; spares = λ y p h. h }
+  through_fine (OfBlock b fin all rest) f (Leaves node x) w d e c g on low ok (around_statement {turn = turn} {sc = sc} {s = s} done q z i) more k now own first need =
+      let fg = frame_ground K proper plain (around_statement {turn = turn} done q z i) g on low ok in
+      body_leaves_fine (node == (out-KBlock b).node) turn sc b fin all done s rest f c g w node x q i on
+      (λ y p h. focus_spares K proper plain y f e c more fg.ground fg.on fg.low (frame_sound K proper (around_statement {turn = turn} done q z i) ok) (beside_inner fg.ground g y fg.inner p) w h) own now
+  through_fine (OfBlock b fin all rest) f AtBlockEnd w d e c g on low ok (around_end {turn = turn} {sc = sc} z i) more k now own first need =
+      ended (ABlock turn sc b) g (pos 0) w (closed b fin all Program w) (λ y p h. closed_spares K proper plain y b fin g w i on p h)
+  through_fine (OfOpen s) f (Ends v) w d e c g on low ok (around_part {sc = sc} b o) more k now own first need =
+      past sc s g w (assign_if Program (target s) v w) (opened_set s (out-KStmt s.stmt) b v w sc refl o) (λ y p h. assign_if_keeps Program y Program (target s) v w h)
+  through_fine (OfOpen s) f (Leaves node x) w d e c g on low ok (around_part {sc = sc} b o) more k now own first need =
+      let fg = frame_ground K proper plain {t = suc n} (around_part {sc = sc} {s = s} b o) g on low ok in
+      part_leaves_fine (node == s.node) sc s b f g w node x o
+      (λ y p h. focus_spares K proper plain y f e c more fg.ground fg.on fg.low (frame_sound K proper {t = suc n} (around_part {sc = sc} {s = s} b o) ok) (beside_inner fg.ground g y fg.inner p) w h)
+  through_fine (OfLoop s j) f AtLoopHead w d e c g on low ok (around_turn {sc = sc} k b q o) more z now own first need = next_turn_fine sc s k b j g w (out-KStmt s.stmt) q (sym q) o on
+  through_fine (OfLoop s j) f (Ends v) w d e c g on low ok (around_turn {sc = sc} k b q o) more z now own first need =
+      turn_fine sc s k b j Again g w q refl (λ y u. past_head f (Ends v) w (OfLoop s j) own first refl y (subst (λ l. turn_needs l y ≡ true) (sym q) u)) w (λ y p h. h)
+  through_fine (OfLoop s j) f (Leaves node x) w d e c g on low ok (around_turn {sc = sc} k b q o) more z now own first need =
+      loop_left_fine sc s k b j f c g w q on low more (frame_ground K proper plain {t = suc n} (around_turn {sc = sc} {s = s} {c = j} k b q o) g on low ok) (frame_sound K proper {t = suc n} (around_turn {sc = sc} {s = s} {c = j} k b q o) ok) (node == s.node) node x (past_head f (Leaves node x) w (OfLoop s j) own first refl) now
+  through_fine (OfPar s front back) f (Ends v) w d e c g on low ok (around_branch {sc = sc} k slot bs b cs q y z) more u now own first need =
+      subst (λ l. UpFine (AStatement sc s) g w (rejoined (kind_of l) s (join front (branch Over back)) Program w)) (sym q)
+      (rejoined_fine sc s k slot (bs ++ b ∷ cs) front back g w q own (branches_spare sc s k slot bs b cs front back g q y z on w))
+  through_fine (OfPar s front back) f (Leaves node x) w d e c g on low ok (around_branch {sc = sc} k slot bs b cs q y z) more u now own first need =
+      record { needed = λ m h. absurd (false≢true h); comes = λ m h. no_await s (KStmt-F.Par k slot (bs ++ b ∷ cs)) m q refl h; spares = λ m p h. h }
+  through_fine fr f x w d e c g on low ok (around_statement done q z i) more k now own first need = elim k [ ]
+  through_fine fr f x w d e c g on low ok (around_end z i) more k now own first need = elim k [ ]
+  through_fine fr f x w d e c g on low ok (around_part b o) more k now own first need = elim k [ ]
+  through_fine fr f x w d e c g on low ok (around_turn j b q o) more k now own first need = elim k [ ]
+  through_fine fr f x w d e c g on low ok (around_branch j slot bs b cs q y z) more k now own first need = elim k [ ]
+  through_fine fr f x w d e c g on low ok (around_call m es h t j q o) more k now own first need = absurd (no_code K proper plain m j o)
+  through_fine fr f x w d e c g on low ok (around_instance {seat = seat} done j q z i y h p o) more k now own first need = absurd (no_code K proper plain seat.code j o)
+
+  -- ---- all of them
+
+  abbrev pub is_at_head : Act → Bool
+  is_at_head AtHead = true
+  is_at_head a = false
+
+  head_first : (f : Focus Act) (x : Outcome) (w : World) → (is_at_head (leaf f) ≡ true → is_head_outcome x ≡ true) → at_first_head f ≡ true → is_head_outcome (up Program f x w).outcome ≡ true
+  unfolding up
+  head_first (Here AtHead) x w h e = h refl
+  head_first (Here (Begin b)) x w h e = absurd (false≢true e)
+  head_first (Here (Start s)) x w h e = absurd (false≢true e)
+  head_first (Here (Finish s v)) x w h e = absurd (false≢true e)
+  head_first (Here AtEnd) x w h e = absurd (false≢true e)
+  head_first (Here Again) x w h e = absurd (false≢true e)
+  head_first (In fr f) x w h e = absurd (false≢true e)
+
+  pub up_fine : (f : Focus Act) (x : Outcome) (w : World) (d e : Part) (g : Ground) → On d g → LowAt d g → Sound K proper d → Around K (suc n) Act f d e → Comes K n e x → OutcomeHas x e w → (is_at_head (leaf f) ≡ true → is_head_outcome x ≡ true)
+      → ((y : ℕ) → focus_needs f y ≡ true → has Program y w ≡ true) → ((y : ℕ) → outcome_needs x y ≡ true → has Program y w ≡ true) → UpFine d g w (up Program f x w)
+  unfolding up focus_needs
+  up_fine (Here a) x w d e g on low ok nothing_around k now first own need = record { needed = need; comes = now; spares = λ y p h. h }
+  up_fine (In fr f) x w d e g on low ok (one_around {e = c} a more) k now first own need =
+      let i = frame_ground K proper plain a g on low ok in
+      let sound = frame_sound K proper a ok in
+      let m = up Program f x w in
+      let inner = up_fine f x w c e i.ground i.on i.low sound more k now first (λ y h. own y (or_right (frame_needs fr (at_first_head f) y) (focus_needs f y) h)) need in
+      let outer = through_fine fr f m.outcome m.world d c e g on low ok a more (up_fits K proper n Program f x w c e sound more k) inner.comes
+          (λ y h. inner.spares y (i.apart y (at_first_head f) h) (own y (or_left (frame_needs fr (at_first_head f) y) (focus_needs f y) h))) (head_first f x w first) inner.needed in
+      subst (λ b. UpFine d g w (through Program fr f (up b f x w).outcome (up b f x w).world)) (sym (plain_body K proper plain a))
+      (record { needed = outer.needed; comes = outer.comes; spares = λ y p h. outer.spares y p (inner.spares y (beside_inner i.ground g y i.inner p) h) })
