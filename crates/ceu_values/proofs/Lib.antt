@@ -10,3 +10,4 @@ pub mod NeedsAt
 pub mod FocusSpares
 pub mod UpValues
 pub mod ThroughValues
+pub mod StepValues

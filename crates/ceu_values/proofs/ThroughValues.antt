@@ -38,7 +38,7 @@ use Rattle.ceu_values.proofs.Positions.{before_at, set_more, declared_cell, Low,
 use Rattle.ceu_values.proofs.NeedsAt.{no_code, LowAt, FrameGround, frame_ground, head_cell}
 use Rattle.ceu_values.proofs.FocusSpares.{branches_joined, decls_ground, closed_spares, focus_spares}
 use denote.Hole.Carrier
-use Rattle.ceu_values.proofs.UpValues.{SetNow, OutcomeHas, outcome_needs, is_head_outcome, UpFine, no_await, opens_no_await, finalizer_sets, layer_set, assigned_has, frame_later, each_joined, fill_needs, plain_body, next_needs}
+use Rattle.ceu_values.proofs.UpValues.{is_at_head, SetNow, OutcomeHas, outcome_needs, is_head_outcome, UpFine, no_await, opens_no_await, finalizer_sets, layer_set, assigned_has, frame_later, each_joined, fill_needs, plain_body, next_needs}
 
 module _ (K : Kernel) (proper : is_proper K ≡ true) (plain : K.codes ≡ []) (n : ℕ) where
   abbrev N : List (List ℕ)
@@ -253,10 +253,6 @@ module _ (K : Kernel) (proper : is_proper K ≡ true) (plain : K.codes ≡ []) (
   through_fine fr f x w d e c g on low ok (around_instance {seat = seat} done j q z i y h p o) more k now own first need = absurd (no_code K proper plain seat.code j o)
 
   -- ---- all of them
-
-  abbrev pub is_at_head : Act → Bool
-  is_at_head AtHead = true
-  is_at_head a = false
 
   head_first : (f : Focus Act) (x : Outcome) (w : World) → (is_at_head (leaf f) ≡ true → is_head_outcome x ≡ true) → at_first_head f ≡ true → is_head_outcome (up Program f x w).outcome ≡ true
   unfolding up

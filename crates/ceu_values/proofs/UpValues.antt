@@ -63,6 +63,10 @@ pub record UpFine (d : Part) (g : Ground) (w : World) (m : Moved) : Type 0 where
   pub comes : OutcomeHas m.outcome d m.world
   pub spares : (y : ℕ) → Beside g y → has Program y w ≡ true → has Program y m.world ≡ true
 
+abbrev pub is_at_head : Act → Bool
+is_at_head AtHead = true
+is_at_head a = false
+
 -- ---- statements that set nothing, or that no await is
 
 abbrev pub awaits : Layer → Option Loc
