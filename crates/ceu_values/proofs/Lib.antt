@@ -11,3 +11,4 @@ pub mod FocusSpares
 pub mod UpValues
 pub mod ThroughValues
 pub mod StepValues
+pub mod StepFine

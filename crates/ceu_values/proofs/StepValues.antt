@@ -54,7 +54,7 @@ use Rattle.ceu_values.proofs.Evaluated.{started_has}
 use Rattle.ceu_values.proofs.UpValues.{is_at_head, SetNow, OutcomeHas, outcome_needs, is_head_outcome, UpFine, awaits, no_await, layer_set, assigned_has, frame_later, each_joined, fill_needs, plain_body}
 use Rattle.ceu_values.proofs.ThroughValues.{up_fine}
 
-not_first : (f : Focus Act) → is_at_head (leaf f) ≡ false → at_first_head f ≡ false
+pub not_first : (f : Focus Act) → is_at_head (leaf f) ≡ false → at_first_head f ≡ false
 not_first (Here AtHead) h = h
 not_first (Here (Begin b)) h = refl
 not_first (Here (Start s)) h = refl
@@ -97,7 +97,7 @@ module _ (K : Kernel) (proper : is_proper K ≡ true) (plain : K.codes ≡ []) w
 
   -- ---- what a leaf does by itself
 
-  abbrev ActDone : Part → Does → World → Type 0
+  abbrev pub ActDone : Part → Does → World → Type 0
   ActDone d (Opens x) w = (y : ℕ) → focus_needs x y ≡ true → ⊥
   ActDone d (Waits r) w = (y : ℕ) → needs r y ≡ true → ⊥
   ActDone d Passes w = OutcomeHas Past d w
@@ -107,7 +107,7 @@ module _ (K : Kernel) (proper : is_proper K ≡ true) (plain : K.codes ≡ []) w
 
   module _ (w : World) where
     -- the world after it, and what it comes to
-    record ActFine (d : Part) (m : Done) : Type 0 where
+    pub record ActFine (d : Part) (m : Done) : Type 0 where
       pub done : ActDone d m.does m.world
       pub keeps : (y : ℕ) → has Program y w ≡ true → has Program y m.world ≡ true
 
@@ -200,7 +200,7 @@ module _ (K : Kernel) (proper : is_proper K ≡ true) (plain : K.codes ≡ []) w
         go (inl u) = false≢true (and_parts (declares y (out-KBlock b).decls) false u).1
         go (inr u) = false≢true (and_parts (is_loc y (body_target b)) false u).1
 
-    acted_fine : (n : ℕ) (d : Part) (a : Act) → ActFits d a → Sound K proper d → ActFine d (acted K n Program a w)
+    pub acted_fine : (n : ℕ) (d : Part) (a : Act) → ActFits d a → Sound K proper d → ActFine d (acted K n Program a w)
     unfolding focus_needs
     acted_fine n d (Begin b) begins ok = same_world _ _ (λ y h. go y (or_cases (block_needs b (before (out-KBlock b).list (rest_of (out-KBlock b).list)) y) false h))
       where
@@ -263,7 +263,7 @@ module _ (K : Kernel) (proper : is_proper K ≡ true) (plain : K.codes ≡ []) w
       leaf_each no_branch y h = h
       leaf_each (branch r more) y h = both (needs (each_leaf g r) y) (each_needs (each_in_branches g more) y) (needs r y) (each_needs more y) (leaf_needs r y) (leaf_each more y) h
 
-  by_event_needs : (level event : ℕ) (v : ℤ) (r : Residual) (y : ℕ) → needs (by_event level event v r) y ≡ true → needs r y ≡ true
+  pub by_event_needs : (level event : ℕ) (v : ℤ) (r : Residual) (y : ℕ) → needs (by_event level event v r) y ≡ true → needs r y ≡ true
   unfolding needs
   by_event_needs level event v (WaitEvent k s) y h = go (k == event) h
     where
@@ -282,12 +282,12 @@ module _ (K : Kernel) (proper : is_proper K ≡ true) (plain : K.codes ≡ []) w
   plain_flat (one_around (around_call m es g u k e q) more) = absurd (no_code K proper plain m k q)
   plain_flat (one_around (around_branch k slot bs b cs e p q) more) = plain_flat more
 
-  woken_flat : {t : ℕ} (code : Option ℕ) (g : Residual → Residual) (f : Focus Act) (r : Residual) (d e : Part) → Around K t Act f d e → woken code g f r ≡ each_leaf g (plug f r)
+  pub woken_flat : {t : ℕ} (code : Option ℕ) (g : Residual → Residual) (f : Focus Act) (r : Residual) (d e : Part) → Around K t Act f d e → woken code g f r ≡ each_leaf g (plug f r)
   woken_flat None g f r d e a = refl
   woken_flat (Some code) g (Here a) r d e x = refl
   woken_flat (Some code) g (In fr f) r d e x = ap (λ b. if b then fill fr (each_in_body g f r) else each_leaf g (plug (In fr f) r)) (plain_flat x)
 
-  unseated_first : (k : ℕ) (f : Focus Act) → at_first_head (unseat k f) ≡ at_first_head f
+  pub unseated_first : (k : ℕ) (f : Focus Act) → at_first_head (unseat k f) ≡ at_first_head f
   unseated_first k (Here a) = refl
   unseated_first k (In fr f) = refl
 
@@ -299,13 +299,13 @@ module _ (K : Kernel) (proper : is_proper K ≡ true) (plain : K.codes ≡ []) w
   unseated_frame_needs k (OfCall s) t y = refl
   unseated_frame_needs k (OfPar s front back) t y = refl
 
-  unseated_needs : (k : ℕ) (f : Focus Act) (y : ℕ) → focus_needs (unseat k f) y ≡ focus_needs f y
+  pub unseated_needs : (k : ℕ) (f : Focus Act) (y : ℕ) → focus_needs (unseat k f) y ≡ focus_needs f y
   unfolding focus_needs
   unseated_needs k (Here a) y = refl
   unseated_needs k (In fr f) y =
       ap (λ b. b || focus_needs (unseat k f) y) (unseated_frame_needs k fr (at_first_head (unseat k f)) y ∙ ap (λ b. frame_needs fr b y) (unseated_first k f)) ∙ ap (λ b. frame_needs fr (at_first_head f) y || b) (unseated_needs k f y)
 
-  unseated_leaf : (k : ℕ) (f : Focus Act) → leaf (unseat k f) ≡ leaf f
+  pub unseated_leaf : (k : ℕ) (f : Focus Act) → leaf (unseat k f) ≡ leaf f
   unseated_leaf k (Here a) = refl
   unseated_leaf k (In fr f) = unseated_leaf k f
 
@@ -313,7 +313,7 @@ module _ (K : Kernel) (proper : is_proper K ≡ true) (plain : K.codes ≡ []) w
   none_killed k w none_lives = refl
   none_killed k w (one_lives {seat = seat} c p e h more) = absurd (no_code K proper plain seat.code c e)
 
-  killed_same : {t : ℕ} {f : Focus Act} {d e : Part} (k : ℕ) (w : World) → Around K t Act f d e → killed k f w ≡ w
+  pub killed_same : {t : ℕ} {f : Focus Act} {d e : Part} (k : ℕ) (w : World) → Around K t Act f d e → killed k f w ≡ w
   killed_same k w nothing_around = refl
   killed_same {f = In fr f} k w (one_around (around_statement done e z i) more) = ap (killed k f) (none_killed k w i) ∙ killed_same k w more
   killed_same {f = In fr f} k w (one_around (around_end z i) more) = ap (killed k f) (none_killed k w i) ∙ killed_same k w more
