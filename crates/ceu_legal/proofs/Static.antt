@@ -171,14 +171,14 @@ module _ (K : Kernel) (names : List (List ℕ)) where
       subst (λ y. BlockOk (code_scope K j y) y.body) same (subst (λ m. BlockOk (code_scope K m x) x.body) b a)
   codes_static i (suc c) j (x ∷ cs) k q h e = codes_static (i + 1) c j cs k (omega (arith, q)) (last_holds _ (codes_ok K names (i + 1) cs) h) e
 
-pub names_of : Kernel → List (List ℕ)
+abbrev pub names_of : Kernel → List (List ℕ)
 names_of K = outer_names_from [] K.codes
 
 pub code_static : (K : Kernel) (c : ℕ) (k : KCode) → is_proper K ≡ true → code_at c K.codes ≡ Some k → block_ok K (names_of K) (code_scope K c k) k.body ≡ true
-unfolding is_proper names_of
+unfolding is_proper
 code_static K c k h e = codes_static K (outer_names_from [] K.codes) 0 c c K.codes k (omega arith) (last_holds _ (codes_ok K (outer_names_from [] K.codes) 0 K.codes) h) e
 
 pub program_static : (K : Kernel) → is_proper K ≡ true → block_ok K (names_of K) (body_scope K [] None K.body ty.S32) K.body ≡ true
-unfolding is_proper names_of
+unfolding is_proper
 program_static K h =
     last_holds _ (block_ok K (outer_names_from [] K.codes) (body_scope K [] None K.body ty.S32) K.body) (first_holds _ (codes_ok K (outer_names_from [] K.codes) 0 K.codes) h)

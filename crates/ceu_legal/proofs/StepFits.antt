@@ -50,7 +50,7 @@ module _ (K : Kernel) (proper : is_proper K ≡ true) where
   unseated_frame t k (around_call c es f u a e q) = around_call c es f u a e q
   unseated_frame t k (around_branch c slot bs b cs e x y) = around_branch c slot bs b cs e x y
 
-  unseated_around : (t k : ℕ) {f : Focus Act} {d e : Part} → Around K t Act f d e → Around K t Act (unseat k f) d e
+  pub unseated_around : (t k : ℕ) {f : Focus Act} {d e : Part} → Around K t Act f d e → Around K t Act (unseat k f) d e
   unseated_around t k nothing_around = nothing_around
   unseated_around t k (one_around a more) = one_around (unseated_frame t k a) (unseated_around t k more)
 

@@ -65,14 +65,14 @@ module _ (K : Kernel) (proper : is_proper K ≡ true) where
   pub layer_of : (sc : Scope) (s : KNode) (layer : Layer) → out-KStmt s.stmt ≡ layer → StmtOk K (names_of K) sc s → layer_fine K (names_of K) sc s.node layer
   layer_of sc s layer e h = subst (layer_fine K (names_of K) sc s.node) e (stmt_static K (names_of K) sc s.node s.stmt h)
 
-  nodes_at : (sc : Scope) (done : List KNode) (s : KNode) (rest : List KNode) → nodes_fine K (names_of K) sc (done ++ s ∷ rest) → StmtOk K (names_of K) sc s
+  pub nodes_at : (sc : Scope) (done : List KNode) (s : KNode) (rest : List KNode) → nodes_fine K (names_of K) sc (done ++ s ∷ rest) → StmtOk K (names_of K) sc s
   nodes_at sc [] s rest h = h.0
   nodes_at sc (x ∷ done) s rest h = nodes_at sc done s rest h.1
 
   pub list_sound : (sc : Scope) (b : KBlock) (done : List KNode) (s : KNode) (rest : List KNode) → BlockOk K (names_of K) sc b → (out-KBlock b).list ≡ done ++ s ∷ rest → StmtOk K (names_of K) (block_scope sc b) s
   list_sound sc b done s rest h e = nodes_at (block_scope sc b) done s rest (subst (nodes_fine K (names_of K) (block_scope sc b)) e (block_static K (names_of K) sc b h))
 
-  each_at : (sc : Scope) (bs : List KBlock) (b : KBlock) (cs : List KBlock) → each_fine K (names_of K) sc (bs ++ b ∷ cs) → BlockOk K (names_of K) sc b
+  pub each_at : (sc : Scope) (bs : List KBlock) (b : KBlock) (cs : List KBlock) → each_fine K (names_of K) sc (bs ++ b ∷ cs) → BlockOk K (names_of K) sc b
   each_at sc [] b cs h = h.0
   each_at sc (x ∷ bs) b cs h = each_at sc bs b cs h.1
 
@@ -81,7 +81,7 @@ module _ (K : Kernel) (proper : is_proper K ≡ true) where
   arms_at sc (a ∷ arms) b h (inl e) = subst (BlockOk K (names_of K) sc) e h.0
   arms_at sc (a ∷ arms) b h (inr x) = arms_at sc arms b h.1 x
 
-  part_sound : (sc : Scope) (n : ℕ) (layer : Layer) (b : KBlock) → layer_fine K (names_of K) sc n layer → opens_part layer b → BlockOk K (names_of K) (part_scope K sc n layer) b
+  pub part_sound : (sc : Scope) (n : ℕ) (layer : Layer) (b : KBlock) → layer_fine K (names_of K) sc n layer → opens_part layer b → BlockOk K (names_of K) (part_scope K sc n layer) b
   part_sound sc n (KStmt-F.Do t c) b h x = subst (BlockOk K (names_of K) (part_scope K sc n (KStmt-F.Do t c))) x h
   part_sound sc n (KStmt-F.If arms last) b h (inl x) = arms_at sc arms b h.0 x
   part_sound sc n (KStmt-F.If arms last) b h (inr e) = subst (BlockOk K (names_of K) sc) e h.1

@@ -1,0 +1,14 @@
+pub mod Counts
+pub mod Grounds
+pub mod Stores
+pub mod Spares
+pub mod Names
+pub mod Readies
+pub mod Evaluated
+pub mod Positions
+pub mod NeedsAt
+pub mod FocusSpares
+pub mod UpValues
+pub mod ThroughValues
+pub mod StepValues
+pub mod StepFine

@@ -1,0 +1,4 @@
+pub mod Ground
+pub mod Ready
+pub mod Needed
+pub mod Laws
