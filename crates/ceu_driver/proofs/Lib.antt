@@ -1,0 +1,11 @@
+pub mod Fronts
+pub mod Marking
+pub mod Noting
+pub mod Going
+pub mod Settled
+pub mod Idling
+pub mod Commanding
+pub mod Scripting
+pub mod Following
+pub mod Looping
+pub mod Finishing

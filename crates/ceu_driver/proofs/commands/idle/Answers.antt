@@ -1,0 +1,47 @@
+use Rattle.std.proofs.Common.{refl, ◌∙◌, subst}
+use Rattle.std.proofs.lemmas.Result.{err_from_is_err_and}
+use Rattle.ceu_tree.specs.Run as run
+use Rattle.ceu_tree.specs.Run.{Waiting, Waits, status_of, world_of}
+use Rattle.ceu_driver.specs.Printing.{Printed, new_text}
+use Rattle.ceu_driver.specs.declared.reactor.After.{After}
+use Rattle.ceu_driver.proofs.Idling.{idle_starts, idle_goes_on, idle_ends, idle_fails, waits_again}
+use Rattle.ceu_driver.proofs.Settled.{not_waiting_settled}
+use Rattle.ceu_driver.proofs.commands.idle.Goals as goal
+
+pub turns-init : goal.turns-init
+turns-init g c = record {
+  going = λ K b here waits. idle_starts (g.R.Reactor.stands c.args.reactor.now K) (g.R.Reactor.stands c.args.reactor.now K) K c.args.marks.now.all c.args.marks.now.outputs.now b c.args.turns 0 (g.O.Sink.held c.args.marks.now.out.now) (g.O.Sink.held c.args.marks.now.out.now) (g.O.Sink.held c.args.marks.now.out.now) here waits refl;
+  same = (refl, refl, refl);
+  quiet = refl;
+  waits = λ inputs w. w;
+}
+
+pub returns-in_err-after-clause-printed : goal.returns-in_err-after-clause-printed
+returns-in_err-after-clause-printed g c =
+    let p = err_from_is_err_and c.from_residual.result c.from_residual.ensures.1 in
+    rw p.1 (λ K b here waits.
+    let so_far = c.turns.invariant.going K b here waits in
+    idle_fails (g.R.Reactor.stands c.turns.reactor K) (g.R.Reactor.stands c.idle_turn.new.reactor K) K c.args.marks.now.all c.args.marks.now.outputs.now b c.args.turns c.turns.turn (g.O.Sink.held c.args.marks.now.out.now) (g.O.Sink.held c.turns.marks.out.now) (g.O.Sink.held c.idle_turn.new.marks.out.now)
+    so_far c.turns-test.true c.turns.marks.all c.turns.marks.outputs.now c.turns.invariant.same.1 c.turns.invariant.same.0 (c.in_err-after.ensures.printed K so_far.config so_far.here))
+
+pub returns-in_default-clause-printed : goal.returns-in_default-clause-printed
+returns-in_default-clause-printed g c = λ K b here waits.
+    let so_far = c.turns.invariant.going K b here waits in
+    let p = c.in_ok-after.ensures.printed K so_far.config so_far.here in
+    idle_ends (g.R.Reactor.stands c.turns.reactor K) (g.R.Reactor.stands c.idle_turn.new.reactor K) K c.args.marks.now.all c.args.marks.now.outputs.now b c.args.turns c.turns.turn (g.O.Sink.held c.args.marks.now.out.now) (g.O.Sink.held c.turns.marks.out.now) (g.O.Sink.held c.idle_turn.new.marks.out.now)
+    so_far c.turns-test.true c.turns.marks.all c.turns.marks.outputs.now c.turns.invariant.same.1 c.turns.invariant.same.0 c.in_ok-after.after p (not_waiting_settled p.config c.in_ok-after.after p.status c.in_default.not-Waiting)
+
+pub turns-preserved : goal.turns-preserved
+turns-preserved g c = record {
+  going = λ K b here waits.
+      let so_far = c.turns.invariant.going K b here waits in
+      let p = subst (λ (a : After). Printed (g.R.Reactor.stands c.idle_turn.new.reactor K) (λ n. run.idle_turn K n so_far.config) (λ n. new_text c.turns.marks.all c.turns.marks.outputs.now (world_of so_far.config).marks (run.idle_turn K n so_far.config)) (g.O.Sink.held c.turns.marks.out.now) (g.O.Sink.held c.idle_turn.new.marks.out.now) a) c.in-Waiting.is (c.in_ok-after.ensures.printed K so_far.config so_far.here) in
+      idle_goes_on (g.R.Reactor.stands c.turns.reactor K) (g.R.Reactor.stands c.idle_turn.new.reactor K) K c.args.marks.now.all c.args.marks.now.outputs.now b c.args.turns c.turns.turn (g.O.Sink.held c.args.marks.now.out.now) (g.O.Sink.held c.turns.marks.out.now) (g.O.Sink.held c.idle_turn.new.marks.out.now)
+      so_far c.turns-test.true c.turns.marks.all c.turns.marks.outputs.now c.turns.invariant.same.1 c.turns.invariant.same.0 p;
+  same = let k = c.idle_turn.ensures.kept in let s = c.turns.invariant.same in (k.0 ∙ s.0, k.1 ∙ s.1, k.2 ∙ s.2);
+  quiet = c.in_ok-after.ensures.cause ∙ c.turns.invariant.quiet;
+  waits = λ inputs w.
+      let v = c.turns.invariant.waits inputs w in
+      let p = subst (λ (a : After). Printed (g.R.Reactor.stands c.idle_turn.new.reactor v.kernel) (λ n. run.idle_turn v.kernel n (Waiting v.tree v.world)) (λ n. new_text c.turns.marks.all c.turns.marks.outputs.now v.world.marks (run.idle_turn v.kernel n (Waiting v.tree v.world))) (g.O.Sink.held c.turns.marks.out.now) (g.O.Sink.held c.idle_turn.new.marks.out.now) a) c.in-Waiting.is (c.in_ok-after.ensures.printed v.kernel (Waiting v.tree v.world) v.here) in
+      waits_again (g.R.Reactor.stands c.turns.reactor) (g.R.Reactor.stands c.idle_turn.new.reactor) inputs v p.config p.here p.status;
+}

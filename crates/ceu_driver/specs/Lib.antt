@@ -1,0 +1,4 @@
+pub mod Reactions
+pub mod Printing
+pub mod Runs
+pub mod Stops
