@@ -1,5 +1,5 @@
 -- In a proper kernel all rows are numbered within the slots and the codes.
-use Rattle.std.proofs.Common.{◌≡◌, refl, sym, ap, subst, ◌∙◌, ℕ, zero, suc, ◌+◌, ◌^◌, ◌<◌, ◌≤◌, arith, Bool, true, false, ◌&&◌, ◌==◌, IsTrue, List, [], ◌∷◌, ◌++◌, length, length-append}
+use Rattle.std.proofs.Common.{◌≡◌, ℕ, suc, ◌+◌, ◌^◌, ◌<◌, ◌≤◌, arith, ◌==◌, IsTrue, List, [], ◌∷◌, ◌++◌, length}
 use Rattle.std.proofs.lemmas.Bool.{eqb-true}
 use Rattle.ceu_base.specs.declared.kinds.Pos.{Pos}
 use Rattle.ceu_tree.specs.declared.kernel.Kernel.{Kernel}
@@ -7,7 +7,7 @@ use Rattle.ceu_tree.specs.declared.kernel.KCode.{KCode}
 use Rattle.ceu_tree.specs.declared.kernel.KDecl.{KDecl}
 use Rattle.ceu_tree.specs.declared.kernel.KLoop.{KLoop}
 use Rattle.ceu_tree.specs.declared.kernel.KLoop.TheVariants as turns
-use Rattle.ceu_tree.specs.declared.kernel.KBlock.{KBlock, KBlock', out-KBlock, Row_of-KNode, end_of-KNode, more_of-KNode}
+use Rattle.ceu_tree.specs.declared.kernel.KBlock.{KBlock, KBlock', Row_of-KNode, end_of-KNode, more_of-KNode}
 use Rattle.ceu_tree.specs.declared.kernel.KArm.{KArm, KArm'}
 use Rattle.ceu_tree.specs.declared.kernel.KStmt.{KStmt, Row_of-KArm, end_of-KArm, more_of-KArm, Row_of-KBlock, end_of-KBlock, more_of-KBlock, AwaitIn, AwaitTime, AwaitEvent, AwaitCode, Emit, Spawn, Forever, Async, Finalize, Do, If', Loop, Par'}
 use Rattle.ceu_tree.specs.Numbering.{decl_slots, loop_slots, par_slots, row_length, stmt_slots, block_slots, arm_slots, list_slots, arms_slots, blocks_slots, codes_slots, counts_from}
@@ -16,7 +16,7 @@ use Rattle.ceu_slots.specs.Layout.{slot_numbers}
 use Rattle.ceu_slots.specs.Plans.{Planned, Lawful}
 use Rattle.ceu_slots.proofs.Each.{Each, each_left, each_right, each_weaker, both_left, both_right}
 use Rattle.ceu_slots.proofs.Kept.{parts_of}
-use Rattle.ceu_listing.specs.Rows.{Row, SlotRow, GateRow, CodeRow, decl_rows, turn_rows, byte_rows, stmt_rows, block_rows, arm_rows, nodes_rows, arms_rows, blocks_rows, code_rows, codes_rows, kernel_rows, AreNumbered}
+use Rattle.ceu_listing.specs.Rows.{Row, decl_rows, turn_rows, byte_rows, stmt_rows, block_rows, arm_rows, nodes_rows, arms_rows, blocks_rows, code_rows, codes_rows, AreNumbered}
 
 numbered_both : (m n : ℕ) (xs ys : List Row) → AreNumbered m n xs → AreNumbered m n ys → AreNumbered m n (xs ++ ys)
 numbered_both m n [] ys h k = k

@@ -8,7 +8,7 @@ use Rattle.ceu_tree.specs.declared.kernel.KStmt as k
 use Rattle.ceu_tree.specs.declared.kernel.KStmt.{KStmt, Row_of-KArm, end_of-KArm, more_of-KArm, items-the_row-KArm, items_hidden-the_row-KArm-0, items_hidden-the_row-KBlock-1, Row_of-KBlock, end_of-KBlock, more_of-KBlock, items-the_row-KBlock}
 use Rattle.ceu_tree.specs.declared.kernel.KStmt.TheBlock.{hidden-the_row-KArm-0, hidden-the_row-KBlock-1}
 use Rattle.ceu_tree.specs.Numbering.{par_slots, row_length}
-use Rattle.ceu_listing.specs.Rows.{Row, SlotRow, GateRow, decl_rows, turn_rows, byte_rows, stmt_rows, block_rows, arm_rows, nodes_rows, arms_rows, blocks_rows, node_rows, list_rows}
+use Rattle.ceu_listing.specs.Rows.{SlotRow, GateRow, decl_rows, turn_rows, byte_rows, stmt_rows, block_rows, arm_rows, nodes_rows, arms_rows, blocks_rows, node_rows, list_rows}
 use denote.Hole.Carrier
 
 pub rows_of_nothing : (node : ℕ) (at : Pos) → stmt_rows node at k.Nothing ≡ []

@@ -1,5 +1,5 @@
 -- Rows one after the other: their text, and that they are numbered.
-use Rattle.std.proofs.Common.{◌≡◌, refl, sym, ap, subst, ◌∙◌, ℕ, zero, suc, ◌+◌, ◌-◌, ◌<◌, ◌≤◌, arith, Bool, List, [], ◌∷◌, ◌++◌, length, drop, get_or, append_assoc, Option, codes}
+use Rattle.std.proofs.Common.{◌≡◌, refl, sym, ap, subst, ◌∙◌, ℕ, suc, ◌+◌, ◌-◌, ◌<◌, ◌≤◌, arith, List, [], ◌∷◌, ◌++◌, length, drop, get_or, append_assoc, codes}
 use Rattle.std.proofs.lemmas.List.{append-nil, drop_all}
 use Rattle.ceu_base.specs.declared.kinds.Pos.{Pos}
 use Rattle.ceu_gates.specs.declared.plan.GatePlan.{GatePlan}
@@ -11,8 +11,7 @@ use Rattle.ceu_tree.specs.declared.kernel.KBlock.{KBlock}
 use Rattle.ceu_tree.proofs.Sizes.{stmt_size, block_size, arm_size, node_list_size, arm_list_size, block_list_size, member_node, member_arm, member_block}
 use Rattle.ceu_listing.specs.Rows.{Row, SlotRow, byte_rows, list_rows, AreNumbered}
 use Rattle.ceu_listing.specs.Lines.{line, text}
-use Rattle.ceu_listing.specs.Prints.{Prints}
-use Rattle.ceu_listing.proofs.Written.{Printed, printed_more, printed_all, next_item, prints_then}
+use Rattle.ceu_listing.proofs.Written.{next_item}
 
 pub text_append : (p : Planned) (g : GatePlan) (xs ys : List Row) → text p g (xs ++ ys) ≡ text p g xs ++ text p g ys
 text_append p g [] ys = refl

@@ -3,7 +3,7 @@ use Rattle.std.proofs.Common.{◌≡◌, refl, sym, ap, subst, ◌∙◌, ℕ, z
 use Rattle.std.proofs.lemmas.List.{take-append-le, append-nil, drop_all}
 use Rattle.std.proofs.Math.Seq.{take-append-add, drop-cons}
 use Rattle.ceu_io.specs.Bytes.{Appends, AppendsProperFront}
-use Rattle.ceu_io.specs.Counts.{Rose, last_count}
+use Rattle.ceu_io.specs.Counts.{Rose}
 use Rattle.ceu_io.proofs.Offers.{appends_nothing, appends_then}
 use Rattle.ceu_listing.specs.Prints.{Prints}
 

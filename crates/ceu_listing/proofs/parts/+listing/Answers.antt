@@ -1,4 +1,4 @@
-use Rattle.std.proofs.Common.{◌≡◌, ◌+◌, ◌<◌, length, drop, rules, arith}
+use Rattle.std.proofs.Common.{◌+◌, ◌<◌, length, drop, rules, arith}
 use Rattle.ceu_listing.specs.Rows as rows
 use Rattle.ceu_listing.specs.Lines.{text}
 use Rattle.ceu_listing.proofs.Written.{printed_more}

@@ -1,4 +1,4 @@
-use Rattle.std.proofs.Common.{◌≡◌, ◌++◌, true, false, sym, subst, arith}
+use Rattle.std.proofs.Common.{◌++◌, true, sym, subst}
 use Rattle.ceu_io.specs.Bytes.{Appends, AppendsProperFront}
 use Rattle.ceu_listing.specs.Rows as rows
 use Rattle.ceu_listing.specs.Rows.{AreNumbered}

@@ -1,4 +1,4 @@
-use Rattle.std.proofs.Common.{◌≡◌, ◌+◌, ◌-◌, ◌<◌, ◌∙◌, ◌∷◌, [], ap, subst, codes, arith}
+use Rattle.std.proofs.Common.{◌+◌, ◌-◌, ◌<◌, ◌∙◌, ◌∷◌, [], ap, subst, codes, arith}
 use Rattle.ceu_tree.specs.Numbering.{range_of}
 use Rattle.ceu_listing.specs.Rows as rows
 use Rattle.ceu_listing.specs.Rows.{AreNumbered, SlotRow}

@@ -1,4 +1,4 @@
-use Rattle.std.proofs.Common.{◌≡◌, ◌+◌, ◌<◌, ◌∙◌, ◌∷◌, [], length, drop, ap, subst, arith}
+use Rattle.std.proofs.Common.{◌+◌, ◌<◌, ◌∙◌, ◌∷◌, [], length, drop, ap, subst, arith}
 use Rattle.ceu_listing.specs.Rows as rows
 use Rattle.ceu_listing.specs.Rows.{AreNumbered, SlotRow}
 use Rattle.ceu_listing.specs.Lines.{text}

@@ -1,6 +1,4 @@
-use Rattle.std.proofs.Common.{◌≡◌, ◌+◌, ◌-◌, ◌*◌, drop}
-use Rattle.ceu_tree.proofs.Sizes.{stmt_size, block_size, node_list_size, arm_size, arm_list_size, block_list_size}
-use Rattle.ceu_tree.specs.Numbering.{range_of}
+use Rattle.std.proofs.Common.{drop}
 use Rattle.ceu_listing.specs.Lines.{text}
 use Rattle.ceu_listing.specs.Rows as rows
 use Rattle.ceu_listing.specs.Rows.{AreNumbered}

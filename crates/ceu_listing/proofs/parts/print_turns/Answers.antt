@@ -1,8 +1,6 @@
-use Rattle.std.proofs.Common.{◌≡◌, ◌∷◌, [], ap, subst, sym, codes}
-use Rattle.ceu_listing.specs.Rows as rows
+use Rattle.std.proofs.Common.{◌∷◌, [], codes}
 use Rattle.ceu_listing.specs.Rows.{SlotRow}
 use Rattle.ceu_listing.specs.Lines.{text}
-use Rattle.ceu_listing.specs.Prints.{Prints}
 use Rattle.ceu_listing.proofs.Written.{prints_three}
 use Rattle.ceu_listing.proofs.Texts.{text_three}
 use Rattle.ceu_listing.proofs.parts.print_turns.Goals as goal

@@ -1,5 +1,3 @@
-use Rattle.std.proofs.Common.{◌≡◌, ◌++◌, sym}
-use Rattle.ceu_listing.specs.Prints.{Prints}
 use Rattle.ceu_listing.proofs.Written.{prints_three}
 use Rattle.ceu_listing.proofs.printing.offer_named.Goals as goal
 
