@@ -1,0 +1,4 @@
+pub mod Written
+pub mod RowLaws
+pub mod Texts
+pub mod Numbers

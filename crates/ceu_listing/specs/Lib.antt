@@ -1,0 +1,3 @@
+pub mod Prints
+pub mod Rows
+pub mod Lines
