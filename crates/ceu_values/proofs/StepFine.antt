@@ -151,7 +151,7 @@ module _ (K : Kernel) (proper : is_proper K ≡ true) (plain : K.codes ≡ []) w
 
   -- ---- the whole program
 
-  root_ground : Ground
+  abbrev pub root_ground : Ground
   root_ground = record { low = 0; high = length (block_slots K.body); first = 0; last = length (block_nodes K.body) }
 
   act_reads : (e : Part) (a : Act) (w : World) → ActFits e a → Sound K proper e → Ready K Program w e → act_has Program w a ≡ true
