@@ -230,7 +230,7 @@ module _ (K : Kernel) (proper : is_proper K ≡ true) where
       let p = async_sound l.scope (leaf g).stmt l.block l.layer (around_sound K proper a root_sound) in
       after_fits k g _ r w l.scope l.block h a l.layer (serve_first_fits k (body_of g Program) _ (leaf g).inner w _ p l.fits (choice_fits K 1 Act (runs_at 0) l.fits))
 
-  idle_turn_fits : (k : ℕ) (c : Config) → ConfigFits K c → ConfigFits K (idle_turn K k c)
+  pub idle_turn_fits : (k : ℕ) (c : Config) → ConfigFits K c → ConfigFits K (idle_turn K k c)
   idle_turn_fits k (Waiting r w) h = go (choose Unserved unserved r) (choice_fits K 0 Unserved unserved h)
     where
       again : Residual

@@ -64,11 +64,12 @@ use Rattle.ceu_tree.specs.Focus.{Frame, OfBlock, OfInstance, OfOpen, OfLoop, OfC
 use Rattle.ceu_tree.specs.Wake.{each_leaf, leaves, runs_at, by_input, later, by_time, least_time, Unserved, unserved, new_round}
 use Rattle.ceu_tree.specs.Run.{Config, Turning, Between, Waiting, Ended, Faulted, config_of, unless_failed, level_closed, chosen_at, next, steps, booted, reacts, input, advance, is_again, Served, Unfinished, Turned, Done as Finished, Failed, serve, serve_first, after_serving, served, idle_turn, idle_turns, done, all_done, run}
 use Rattle.ceu_laws.proofs.FocusBalance.{Found, FoundIn, choose_found}
-use Rattle.ceu_legal.specs.Shape.{Part, ABlock, AStatement, AnEnd, async_scope, program_part, Fits, FrameFits, around_statement, around_end, around_instance, around_part, around_turn, around_call, around_branch, Around, nothing_around, one_around, TurnFits, Comes, ConfigFits}
+use Rattle.ceu_legal.specs.Shape.{Part, ABlock, AStatement, AnEnd, async_scope, program_part, pauses, Fits, to_finish, FrameFits, around_statement, around_end, around_instance, around_part, around_turn, around_call, around_branch, Around, nothing_around, one_around, TurnFits, Comes, ConfigFits}
 use Rattle.ceu_legal.proofs.Leaves.{leaves_fit, by_input_fits, by_time_fits, later_fits, round_fits}
 use Rattle.ceu_legal.proofs.Choice.{ChosenFits, ChoiceFits, choice_fits}
 use Rattle.ceu_legal.proofs.StepFits.{stepped_fits}
-use Rattle.ceu_legal.proofs.RunFits.{root_sound, root_closed, turn_of_chosen, AsyncLeaf, async_leaf, next_fits, steps_fit, done_fits}
+use Rattle.ceu_legal.proofs.Fits.{around_raised, plug_fits}
+use Rattle.ceu_legal.proofs.RunFits.{root_sound, root_closed, turn_of_chosen, AsyncLeaf, async_leaf, next_fits, steps_fit, done_fits, booted_fits, idle_turn_fits}
 use Rattle.ceu_values.specs.Needed.{some_done, block_needs, own_variable, turn_needs, needs, each_needs, at_first_head, frame_needs, focus_needs, Valued}
 use Rattle.ceu_values.proofs.Positions.{low_inner, beside_inner}
 use Rattle.ceu_values.proofs.StepFine.{WholeFine, stepped_fine, turn_reads, root_ground, plain_body_of}
@@ -284,3 +285,145 @@ module _ (K : Kernel) (proper : is_proper K ≡ true) (plain : K.codes ≡ []) w
         ground = r.ground; on = r.on; low = r.low; inner = inner_then r.ground i.ground g r.inner i.inner;
         split = λ y p q h. frame_split fr d c a (plug f p) (plug f q) r.ground (needs q y ≡ true) y (λ u. beside_inner r.ground i.ground y r.inner (i.apart y false u)) h (r.split y p q);
       }
+
+  abbrev ServedFine : Ground → World → Served → Type 0
+  ServedFine g w (Turned r u) = ((y : ℕ) → needs r y ≡ true → has Program y u ≡ true) × ((y : ℕ) → Beside g y → has Program y w ≡ true → has Program y u ≡ true)
+  ServedFine g w (Finished u) = (y : ℕ) → Beside g y → has Program y w ≡ true → has Program y u ≡ true
+  ServedFine g w x = Unit {0}
+
+  served_then : (g : Ground) (w u : World) (x : Served) → ((y : ℕ) → Beside g y → has Program y w ≡ true → has Program y u ≡ true) → ServedFine g u x → ServedFine g w x
+  served_then g w u (Turned r v) a b = (b.0, λ y p h. b.1 y p (a y p h))
+  served_then g w u (Finished v) a b = λ y p h. b y p (a y p h)
+  served_then g w u Unfinished a b = tt
+  served_then g w u (Failed e r v) a b = tt
+
+  again_not_head : (a : Act) → is_again a ≡ true → is_at_head a ≡ false
+  again_not_head Again h = refl
+  again_not_head a h = absurd (false≢true h)
+
+  module _ (d : Part) (g : Ground) (closed : Closed K proper d) (on : On d g) (low : LowAt d g) (ok : Sound K proper d) where
+    again_needs : (f : Focus Act) (u : World) → TurnFits K 1 d f → is_again (leaf f) ≡ true → ((y : ℕ) → focus_needs f y ≡ true → has Program y u ≡ true) → (y : ℕ) → needs (plug f (Run 0 Again)) y ≡ true → has Program y u ≡ true
+    unfolding needs
+    again_needs f u t e own y h = go (plug_needs K proper plain f d t.part (Run 0 Again) y t.around (again_not_head (leaf f) e) h)
+      where
+        go : (focus_needs f y ≡ true) ⊎ (false ≡ true) → has Program y u ≡ true
+        go (inl z) = own y z
+        go (inr z) = absurd (false≢true z)
+
+    serve_fine : (k : ℕ) (f : Focus Act) (w : World) → TurnFits K 1 d f → ((y : ℕ) → focus_needs f y ≡ true → has Program y w ≡ true) → ServedFine g w (serve K k Program f w)
+    unfolding serve
+    serve_fine zero f w t own = tt
+    serve_fine (suc k) f w t own = go (stepped K 0 Program f w).outcome (stepped_fits K proper 0 Program f w d closed ok t) fine.needed (λ q x h. serve_fine k q u x h)
+      where
+        u : World
+        u = (stepped K 0 Program f w).world
+
+        fine : WholeFine K proper plain 0 d g closed on low ok w (stepped K 0 Program f w)
+        fine = stepped_fine K proper plain 0 d g closed on low ok f w t own
+
+        go : (x : Outcome) → Comes K 0 d x → ((y : ℕ) → outcome_needs x y ≡ true → has Program y u ≡ true) → ((q : Focus Act) → TurnFits K 1 d q → ((y : ℕ) → focus_needs q y ≡ true → has Program y u ≡ true) → ServedFine g u (serve K k Program q u)) → ServedFine g w (elim x [
+          | Goes q ↦ elim (is_again (leaf q)) [ true ↦ Turned (plug q (Run 0 Again)) u | false ↦ serve K k Program q u ]
+          | Fails e r ↦ Failed e r u
+          | Rests r ↦ Turned r u
+          | Raises r ↦ Turned r u
+          | _ ↦ Finished u
+        ])
+        go (Goes q) x need ih = inner (is_again (leaf q)) refl
+          where
+            inner : (b : Bool) → is_again (leaf q) ≡ b → ServedFine g w (elim b [ true ↦ Turned (plug q (Run 0 Again)) u | false ↦ serve K k Program q u ])
+            inner true e = (again_needs q u x e need, fine.spares)
+            inner false e = served_then g w u (serve K k Program q u) fine.spares (ih q x need)
+        go (Fails e r) x need ih = tt
+        go (Rests r) x need ih = (need, fine.spares)
+        go (Raises r) x need ih = (need, fine.spares)
+        go y x need ih = fine.spares
+
+    first_fine : (k : ℕ) (r : Residual) (w : World) (o : Option (Focus Act)) → ChoiceFits K 1 Act (runs_at 0) d o → FoundIn Act (runs_at 0) r o → ((y : ℕ) → needs r y ≡ true → has Program y w ≡ true) → ServedFine g w (serve_first K k Program o r w)
+    first_fine k r w None c x h = (h, λ y p q. q)
+    first_fine k r w (Some f) c x h = serve_fine k f w (turn_of_chosen K proper 0 d f c) (λ y q. h y (subst (λ z. needs z y ≡ true) x.plugs (focus_inside f d c.part x.was y c.around q)))
+
+  -- where an async stands, and what it has left
+  async_was : (r : Residual) (x : Unserved) → unserved r ≡ Some x → r ≡ InAsync x.stmt false x.inner
+  async_was (InAsync s false r) x e = ap {A = Unserved} (λ y. InAsync y.stmt false y.inner) (ap (λ o. elim o [ None ↦ record { stmt = s; inner = r } | Some y ↦ y ]) e)
+  async_was r x e = absurd (cc)
+
+  after_fine : (k : ℕ) (g : Focus Unserved) (x : Served) (r : Residual) (w : World) (sc : Scope) (b : KBlock) (i : HoleGround Unserved g (AStatement sc (leaf g).stmt) (root_ground K proper plain)) (h : Ground) → Inner h i.ground
+      → Around K 0 Unserved g (program_part K) (AStatement sc (leaf g).stmt) → out-KStmt (leaf g).stmt.stmt ≡ KStmt-F.Async b
+      → plug g (InAsync (leaf g).stmt false (leaf g).inner) ≡ r → ((y : ℕ) → needs r y ≡ true → has Program y w ≡ true) → ServedFine h w x → Valued (after_serving K k g x r w)
+  unfolding needs
+  after_fine k g Unfinished r w sc b i h z a e q own s = own
+  after_fine k g (Failed y p u) r w sc b i h z a e q own s = tt
+  after_fine k g (Turned p u) r w sc b i h z a e q own s = λ y v. go y (i.split y (InAsync (leaf g).stmt false (leaf g).inner) (InAsync (leaf g).stmt true p) v)
+    where
+      go : (y : ℕ) → ((needs (plug g (InAsync (leaf g).stmt false (leaf g).inner)) y ≡ true) × Beside i.ground y) ⊎ (needs p y ≡ true) → has Program y u ≡ true
+      go y (inl v) = s.1 y (beside_inner h i.ground y z v.1) (own y (subst (λ t. needs t y ≡ true) q v.0))
+      go y (inr v) = s.0 y v
+  after_fine k g (Finished u) r w sc b i h z a e q own s =
+      steps_valued k (Between 0 (plug g (Run 0 (Finish (leaf g).stmt (pos 0)))) u) (plug_fits K (around_raised K {t = 0} {u = 1} (omega arith) a) (to_finish (omega arith) (ap pauses e)))
+      (λ y v. go y (i.split y (InAsync (leaf g).stmt false (leaf g).inner) (Run 0 (Finish (leaf g).stmt (pos 0))) v))
+    where
+      go : (y : ℕ) → ((needs (plug g (InAsync (leaf g).stmt false (leaf g).inner)) y ≡ true) × Beside i.ground y) ⊎ (false ≡ true) → has Program y u ≡ true
+      go y (inl v) = s y (beside_inner h i.ground y z v.1) (own y (subst (λ t. needs t y ≡ true) q v.0))
+      go y (inr v) = absurd (false≢true v)
+
+  inner_needs : {A : Type 0} {t : ℕ} (f : Focus A) (d e : Part) (q : Residual) (y : ℕ) → Around K t A f d e → needs q y ≡ true → needs (plug f q) y ≡ true
+  inner_needs (Here a) d e q y nothing_around h = h
+  inner_needs (In fr f) d e q y (one_around {e = c} a more) h = inside_fill a false (plug f q) y (inr (inner_needs f c e q y more h))
+
+  served_valued : (k : ℕ) (o : Option (Focus Unserved)) (r : Residual) (w : World) → ChoiceFits K 0 Unserved unserved (program_part K) o → FoundIn Unserved unserved r o → ((y : ℕ) → needs r y ≡ true → has Program y w ≡ true) → Valued (served K k o r w)
+  unfolding needs
+  served_valued k None r w c x h = h
+  served_valued k (Some g) r w c x h =
+      let l = async_leaf K proper c.part c.was (leaf g) c.fits c.picked in
+      let a : Around K 0 Unserved g (program_part K) (AStatement l.scope (leaf g).stmt) = subst (Around K 0 Unserved g (program_part K)) l.is c.around in
+      let i = hole_ground g (program_part K) (AStatement l.scope (leaf g).stmt) (root_ground K proper plain) a root_on root_low (root_sound K proper) in
+      let j = inner_ground (leaf g).stmt (KStmt-F.Async l.block) i.ground l.layer i.on in
+      let low = low_inner l.scope i.ground j.ground j.inner i.low in
+      let sound = (layer_of K proper l.scope (leaf g).stmt (KStmt-F.Async l.block) l.layer (around_sound K proper a (root_sound K proper))).1 in
+      let q = ap (plug g) (sym (async_was x.was (leaf g) x.picked)) ∙ x.plugs in
+      let inside : (y : ℕ) → needs (leaf g).inner y ≡ true → has Program y w ≡ true
+          = λ y v. h y (subst (λ t. needs t y ≡ true) q (inner_needs g (program_part K) (AStatement l.scope (leaf g).stmt) (InAsync (leaf g).stmt false (leaf g).inner) y a v)) in
+      let d = ABlock false (async_scope K l.scope) l.block in
+      let s = first_fine d j.ground (λ node u v. false≢true u) j.on (record { seen = low.seen; main = low.main }) sound k (leaf g).inner w (choose Act (runs_at 0) (leaf g).inner) (choice_fits K 1 Act (runs_at 0) l.fits) (choose_found Act (runs_at 0) (leaf g).inner) inside in
+      after_fine k g (serve_first K k (body_of g Program) (choose Act (runs_at 0) (leaf g).inner) (leaf g).inner w) r w l.scope l.block i j.ground j.inner a l.layer q h
+      (subst (λ b. ServedFine j.ground w (serve_first K k b (choose Act (runs_at 0) (leaf g).inner) (leaf g).inner w)) (sym (plain_body_of K proper plain g (program_part K) (AStatement l.scope (leaf g).stmt) a)) s)
+
+  idle_turn_valued : (k : ℕ) (c : Config) → ConfigFits K c → Valued c → Valued (idle_turn K k c)
+  idle_turn_valued k (Waiting r w) t h = go (choose Unserved unserved r) (choice_fits K 0 Unserved unserved t) (choose_found Unserved unserved r)
+    where
+      again : Residual
+      again = each_leaf new_round r
+
+      go : (o : Option (Focus Unserved)) → ChoiceFits K 0 Unserved unserved (program_part K) o → FoundIn Unserved unserved r o → Valued (elim o [ Some g ↦ served K k (Some g) r w | None ↦ served K k (choose Unserved unserved again) again w ])
+      go (Some g) c x = served_valued k (Some g) r w c x h
+      go None c x = served_valued k (choose Unserved unserved again) again w (choice_fits K 0 Unserved unserved (leaves_fit K 0 0 new_round (round_fits K) t)) (choose_found Unserved unserved again) (changed new_round round_needs r w h)
+  idle_turn_valued k (Turning n f w) t h = h
+  idle_turn_valued k (Between n r w) t h = h
+  idle_turn_valued k (Ended x w) t h = h
+  idle_turn_valued k (Faulted e w) t h = h
+
+  idle_turns_valued : (k j : ℕ) (c : Config) → ConfigFits K c → Valued c → Valued (idle_turns K k j c)
+  idle_turns_valued k zero c t h = h
+  idle_turns_valued k (suc j) c t h = idle_turns_valued k j (idle_turn K k c) (idle_turn_fits K proper k c t) (idle_turn_valued k c t h)
+
+  pub done_valued : (k : ℕ) (x : Command) (c : Config) → ConfigFits K c → Valued c → Valued (done K k x c)
+  unfolding done
+  done_valued k (Input event v) c t h = input_valued k event v c t h
+  done_valued k (Advance us) c t h = advance_valued k (us + 1) us c t h
+  done_valued k (Idle j) c t h = idle_turns_valued k j c t h
+
+  all_valued : (k : ℕ) (xs : List Command) (c : Config) → ConfigFits K c → Valued c → Valued (all_done K k xs c)
+  unfolding all_done
+  all_valued k [] c t h = h
+  all_valued k (x ∷ xs) c t h = all_valued k xs (done K k x c) (done_fits K proper k x c t) (done_valued k x c t h)
+
+  pub run_valued : (k : ℕ) (xs : List Command) → Valued (run K k xs)
+  unfolding run
+  run_valued k xs = all_valued k xs (steps K k (booted K)) (steps_fit K proper k (booted K) (booted_fits K proper)) (steps_valued k (booted K) (booted_fits K proper) booted_valued)
+
+  pub config_reads : (n : ℕ) (f : Focus Act) (w : World) → TurnFits K (suc n) (program_part K) f → Valued (Turning n f w) → act_has (body_of f Program) w (leaf f) ≡ true
+  config_reads n f w t h = turn_reads K proper plain n f w (program_part K) (root_sound K proper) (ready_program K Program w) t h
+
+  pub boot_reads : (k n : ℕ) (f : Focus Act) (w : World) → steps K k (booted K) ≡ Turning n f w → act_has (body_of f Program) w (leaf f) ≡ true
+  boot_reads k n f w e =
+      config_reads n f w (subst (ConfigFits K) e (steps_fit K proper k (booted K) (booted_fits K proper))) (subst Valued e (steps_valued k (booted K) (booted_fits K proper) booted_valued))
