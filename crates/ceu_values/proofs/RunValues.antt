@@ -1,76 +1,46 @@
 -- Programs without code: reactions, commands and runs leave a value to each slot that needs one.
-use Rattle.std.proofs.Common.{◌≡◌, refl, sym, ap, ◌∙◌, subst, ◌<◌, ◌≤◌, ℕ, zero, suc, ◌+◌, ℤ, pos, ◌+ℤ◌, int_lt, Bool, true, false, not, if◌then◌else◌, ◌==◌, ◌&&◌, ◌||◌, ◌⊎◌, inl, inr, List, [], ◌∷◌, ◌++◌, append_assoc, length, Option, Some, None, arith, eqb-true, eq-eqb}
-use Rattle.std.proofs.lemmas.Bool.{and_parts, and_from, or_cases, false≢true}
+use Rattle.std.proofs.Common.{◌≡◌, refl, sym, ap, ◌∙◌, subst, ℕ, zero, suc, ◌+◌, ℤ, pos, Bool, true, false, not, if◌then◌else◌, ◌==◌, ◌||◌, ◌⊎◌, inl, inr, List, [], ◌∷◌, Option, Some, None, arith}
+use Rattle.std.proofs.lemmas.Bool.{and_parts, or_cases, false≢true}
 use Rattle.ceu_tree.specs.declared.kernel.Kernel.{Kernel}
-use Rattle.ceu_tree.specs.declared.kernel.KLoop.{KLoop}
-use Rattle.ceu_tree.specs.declared.kernel.KLoop.TheVariants as turns
-use Rattle.ceu_tree.specs.declared.kernel.Loc.{Loc}
-use Rattle.ceu_tree.specs.declared.kernel.ParKind.{ParKind}
-use Rattle.ceu_tree.specs.declared.kernel.ParKind.TheVariants as par
-use Rattle.ceu_tree.specs.declared.kernel.KNode.{KNode}
 use Rattle.ceu_tree.specs.declared.kernel.KBlock.{KBlock, out-KBlock}
-use Rattle.ceu_tree.specs.declared.kernel.KStmt as kernel
-use Rattle.ceu_tree.specs.declared.kernel.KStmt.{KStmt, out-KStmt}
+use Rattle.ceu_tree.specs.declared.kernel.KStmt.{out-KStmt}
 use Rattle.ceu_tree.specs.declared.kernel.KStmt.TheOpen.{KStmt-F}
-use Rattle.ceu_tree.specs.Residual.{Body, Program, Act, Begin, Start, Finish, AtEnd, AtHead, Again, Counter, Free, Turns, Upward, Residual, Over, Run, Block, Open, Loop, Call, Par, Branches, no_branch, branch, Instances}
-use Rattle.ceu_tree.specs.Legal.{before, is_set, is_finalizer}
-use Rattle.ceu_tree.specs.Mentions.{is_loc, await_target, body_target, sets}
-use Rattle.ceu_tree.specs.Numbering.{counts_from, decl_slots, block_slots, block_nodes, stmt_slots, stmt_nodes}
-use Rattle.ceu_legal.proofs.Static.{BlockOk, names_of}
-use Rattle.ceu_values.specs.Ground.{has, Ground, Numbered, On, numbers_among}
+use Rattle.ceu_tree.specs.Residual.{Program, Act, Finish, Again, Residual, Run, Branches, no_branch, branch}
+use Rattle.ceu_tree.specs.Legal.{before}
+use Rattle.ceu_values.specs.Ground.{has, Ground, On}
 use Rattle.ceu_values.proofs.Counts.{Inner, inner_then}
-use Rattle.ceu_values.proofs.Grounds.{InStatement, inner_ground, InBranches, branch_ground, hidden_counts}
-use Rattle.ceu_values.proofs.Names.{head_target, body_target_is, layer_sets, sets_is, target_sets}
-use Rattle.ceu_values.proofs.Spares.{turns_spared, each_spares}
-use Rattle.ceu_values.proofs.NeedsAt.{no_code, LowAt, FrameGround, frame_ground, head_cell}
-use denote.Hole.Carrier
-use Rattle.ceu_tree.specs.declared.kernel.KCode.{KCode}
+use Rattle.ceu_values.proofs.Grounds.{inner_ground}
+use Rattle.ceu_values.proofs.NeedsAt.{no_code, LowAt, frame_ground}
 use Rattle.ceu_base.specs.declared.kinds.Pos.{Pos}
 use Rattle.ceu_base.specs.declared.kinds.Fault.{Fault}
-use Rattle.ceu_base.specs.Values.{same}
-use Rattle.ceu_base.specs.declared.kinds.Mark.TheVariants as mark
-use Rattle.std.specs.Prelude.{Result, Ok, Err}
-use Rattle.ceu_tree.specs.declared.kernel.KArm.{KArm, out-KArm}
-use Rattle.ceu_tree.specs.Residual.{Seat, no_instance, instance, WaitInput, WaitTime, WaitEvent, WaitForever, InAsync}
-use Rattle.ceu_tree.specs.World.{World, marked, Cell, Holds, NotSet, Names, set, assign, assign_if, set_parameters, look}
-use Rattle.ceu_tree.specs.Expressions.{value_of, value_if, values_of, names_living}
-use Rattle.ceu_tree.specs.Leaf as does
-use Rattle.ceu_tree.specs.Leaf.{Layer, Exit, Does, Opens, Waits, Passes, Kills, Done, or_fails, code_at, target, target_of, chosen_part, branches_from, in_branches, loop_reached, called, spawning, killing, started, next_of, rest_of, acted}
-use Rattle.ceu_tree.specs.Step.{event_code, emitted, spawned, unseated, unseat_frame, unseat, killed_in, kill_frame, killed, does_in, stepped}
-use Rattle.ceu_tree.specs.Proper.{Scope, is_proper, is_trail}
-use Rattle.ceu_legal.proofs.UpFits.{Sound, frame_sound, layer_of, up_fits}
-use Rattle.ceu_legal.proofs.LeafFits.{DoesFit, acted_fits}
+use Rattle.ceu_tree.specs.Residual.{WaitInput, WaitTime, InAsync}
+use Rattle.ceu_tree.specs.World.{World}
+use Rattle.ceu_tree.specs.Step.{stepped}
+use Rattle.ceu_tree.specs.Proper.{Scope, is_proper}
+use Rattle.ceu_legal.proofs.UpFits.{Sound, frame_sound, layer_of}
 use Rattle.ceu_legal.proofs.StepFits.{Closed, around_sound}
-use Rattle.ceu_values.specs.Ready.{is_cell, declares, act_has, Ready}
-use Rattle.ceu_values.proofs.Stores.{never_true, or_left, or_right, set_keeps, set_has, assign_if_keeps}
-use Rattle.ceu_values.proofs.Positions.{before_at, before_first, Low, Beside}
-use Rattle.ceu_values.proofs.Readies.{ready_list, ready_part, ready_turn, ready_branch}
-use Rattle.ceu_values.proofs.Evaluated.{started_has}
-use Rattle.ceu_values.proofs.UpValues.{is_at_head, SetNow, OutcomeHas, outcome_needs, is_head_outcome, UpFine, awaits, no_await, layer_set, assigned_has, frame_later, each_joined, fill_needs, plain_body}
-use Rattle.ceu_values.proofs.ThroughValues.{up_fine}
-use Rattle.ceu_tree.specs.Step.{spawned_at}
-use Rattle.ceu_legal.proofs.LeafFits.{Pausing}
-use Rattle.ceu_legal.proofs.StepFits.{unseated_around}
+use Rattle.ceu_values.specs.Ready.{act_has}
+use Rattle.ceu_values.proofs.Stores.{or_left, or_right}
+use Rattle.ceu_values.proofs.Positions.{Beside}
+use Rattle.ceu_values.proofs.UpValues.{is_at_head, outcome_needs, fill_needs}
 use Rattle.ceu_values.proofs.Grounds.{program_ground}
 use Rattle.ceu_values.proofs.Readies.{ready_program}
-use Rattle.ceu_values.proofs.StepValues.{not_first, ready_down, ActDone, ActFine, acted_fine, plug_needs, graft_needs, leaf_needs, by_event_needs, woken_flat, unseated_needs, unseated_leaf, killed_same}
+use Rattle.ceu_values.proofs.StepValues.{plug_needs, leaf_needs}
 use Rattle.std.proofs.Common.{◌-◌, nat_le, min}
-use Rattle.ceu_base.specs.declared.kinds.Ty.TheVariants as ty
 use Rattle.ceu_tree.specs.declared.command.Command.{Command}
 use Rattle.ceu_tree.specs.declared.command.Command.TheVariants.{Input, Advance, Idle}
-use Rattle.ceu_tree.specs.Around.{Outcome, Goes, Rests, Raises, Fails, Past, Registers, AtBlockEnd, AtLoopHead, Ends, Leaves}
-use Rattle.ceu_tree.specs.World.{empty_world}
-use Rattle.ceu_tree.specs.Focus.{Frame, OfBlock, OfInstance, OfOpen, OfLoop, OfCall, OfPar, Focus, Here, In, join, fill, plug, leaf, body_of, choose}
+use Rattle.ceu_tree.specs.Around.{Outcome, Goes, Rests, Raises, Fails, Ends}
+use Rattle.ceu_tree.specs.Focus.{Frame, Focus, Here, In, join, fill, plug, leaf, body_of, choose}
 use Rattle.ceu_tree.specs.Wake.{each_leaf, leaves, runs_at, by_input, later, by_time, least_time, Unserved, unserved, new_round}
 use Rattle.ceu_tree.specs.Run.{Config, Turning, Between, Waiting, Ended, Faulted, config_of, unless_failed, level_closed, chosen_at, next, steps, booted, reacts, input, advance, is_again, Served, Unfinished, Turned, Done as Finished, Failed, serve, serve_first, after_serving, served, idle_turn, idle_turns, done, all_done, run}
-use Rattle.ceu_laws.proofs.FocusBalance.{Found, FoundIn, choose_found}
-use Rattle.ceu_legal.specs.Shape.{Part, ABlock, AStatement, AnEnd, async_scope, program_part, pauses, Fits, to_finish, FrameFits, around_statement, around_end, around_instance, around_part, around_turn, around_call, around_branch, Around, nothing_around, one_around, TurnFits, Comes, ConfigFits}
+use Rattle.ceu_laws.proofs.FocusBalance.{FoundIn, choose_found}
+use Rattle.ceu_legal.specs.Shape.{Part, ABlock, AStatement, async_scope, program_part, pauses, Fits, to_finish, FrameFits, around_statement, around_end, around_instance, around_part, around_turn, around_call, around_branch, Around, nothing_around, one_around, TurnFits, Comes, ConfigFits}
 use Rattle.ceu_legal.proofs.Leaves.{leaves_fit, by_input_fits, by_time_fits, later_fits, round_fits}
-use Rattle.ceu_legal.proofs.Choice.{ChosenFits, ChoiceFits, choice_fits}
+use Rattle.ceu_legal.proofs.Choice.{ChoiceFits, choice_fits}
 use Rattle.ceu_legal.proofs.StepFits.{stepped_fits}
 use Rattle.ceu_legal.proofs.Fits.{around_raised, plug_fits}
-use Rattle.ceu_legal.proofs.RunFits.{root_sound, root_closed, turn_of_chosen, AsyncLeaf, async_leaf, next_fits, steps_fit, done_fits, booted_fits, idle_turn_fits}
-use Rattle.ceu_values.specs.Needed.{some_done, block_needs, own_variable, turn_needs, needs, each_needs, at_first_head, frame_needs, focus_needs, Valued}
+use Rattle.ceu_legal.proofs.RunFits.{root_sound, root_closed, turn_of_chosen, async_leaf, next_fits, steps_fit, done_fits, booted_fits, idle_turn_fits}
+use Rattle.ceu_values.specs.Needed.{block_needs, turn_needs, needs, each_needs, at_first_head, frame_needs, focus_needs, Valued}
 use Rattle.ceu_values.proofs.Positions.{low_inner, beside_inner}
 use Rattle.ceu_values.proofs.StepFine.{WholeFine, stepped_fine, turn_reads, root_ground, plain_body_of}
 
@@ -276,13 +246,20 @@ module _ (K : Kernel) (proper : is_proper K ≡ true) (plain : K.codes ≡ []) w
 
   hole_ground : {A : Type 0} {t : ℕ} (f : Focus A) (d e : Part) (g : Ground) → Around K t A f d e → On d g → LowAt d g → Sound K proper d → HoleGround A f e g
   hole_ground (Here a) d e g nothing_around on low ok = record {
-    ground = g; on = on; low = low; inner = record { low = omega arith; high = omega arith; first = omega arith; last = omega arith }; split = λ y p q h. inr h;
+    ground = g;
+    on = on;
+    low = low;
+    inner = record { low = omega arith; high = omega arith; first = omega arith; last = omega arith };
+    split = λ y p q h. inr h;
   }
   hole_ground (In fr f) d e g (one_around {e = c} a more) on low ok =
       let i = frame_ground K proper plain a g on low ok in
       let r = hole_ground f c e i.ground more i.on i.low (frame_sound K proper a ok) in
       record {
-        ground = r.ground; on = r.on; low = r.low; inner = inner_then r.ground i.ground g r.inner i.inner;
+        ground = r.ground;
+        on = r.on;
+        low = r.low;
+        inner = inner_then r.ground i.ground g r.inner i.inner;
         split = λ y p q h. frame_split fr d c a (plug f p) (plug f q) r.ground (needs q y ≡ true) y (λ u. beside_inner r.ground i.ground y r.inner (i.apart y false u)) h (r.split y p q);
       }
 
@@ -382,7 +359,7 @@ module _ (K : Kernel) (proper : is_proper K ≡ true) (plain : K.codes ≡ []) w
       let sound = (layer_of K proper l.scope (leaf g).stmt (KStmt-F.Async l.block) l.layer (around_sound K proper a (root_sound K proper))).1 in
       let q = ap (plug g) (sym (async_was x.was (leaf g) x.picked)) ∙ x.plugs in
       let inside : (y : ℕ) → needs (leaf g).inner y ≡ true → has Program y w ≡ true
-          = λ y v. h y (subst (λ t. needs t y ≡ true) q (inner_needs g (program_part K) (AStatement l.scope (leaf g).stmt) (InAsync (leaf g).stmt false (leaf g).inner) y a v)) in
+      = λ y v. h y (subst (λ t. needs t y ≡ true) q (inner_needs g (program_part K) (AStatement l.scope (leaf g).stmt) (InAsync (leaf g).stmt false (leaf g).inner) y a v)) in
       let d = ABlock false (async_scope K l.scope) l.block in
       let s = first_fine d j.ground (λ node u v. false≢true u) j.on (record { seen = low.seen; main = low.main }) sound k (leaf g).inner w (choose Act (runs_at 0) (leaf g).inner) (choice_fits K 1 Act (runs_at 0) l.fits) (choose_found Act (runs_at 0) (leaf g).inner) inside in
       after_fine k g (serve_first K k (body_of g Program) (choose Act (runs_at 0) (leaf g).inner) (leaf g).inner w) r w l.scope l.block i j.ground j.inner a l.layer q h
