@@ -39,7 +39,7 @@ use Rattle.ceu_legal.proofs.Leaves.{leaves_fit, by_input_fits, by_time_fits, lat
 use Rattle.ceu_legal.proofs.Choice.{ChoiceFits, choice_fits}
 use Rattle.ceu_legal.proofs.StepFits.{stepped_fits}
 use Rattle.ceu_legal.proofs.Fits.{around_raised, plug_fits}
-use Rattle.ceu_legal.proofs.RunFits.{root_sound, root_closed, turn_of_chosen, async_leaf, next_fits, steps_fit, done_fits, booted_fits, idle_turn_fits}
+use Rattle.ceu_legal.proofs.RunFits.{root_sound, root_closed, turn_of_chosen, async_leaf, next_fits, steps_fit, done_fits, run_fits, booted_fits, idle_turn_fits}
 use Rattle.ceu_values.specs.Needed.{block_needs, turn_needs, needs, each_needs, at_first_head, frame_needs, focus_needs, Valued}
 use Rattle.ceu_values.proofs.Positions.{low_inner, beside_inner}
 use Rattle.ceu_values.proofs.StepFine.{WholeFine, stepped_fine, turn_reads, root_ground, plain_body_of}
@@ -404,3 +404,8 @@ module _ (K : Kernel) (proper : is_proper K ≡ true) (plain : K.codes ≡ []) w
   pub boot_reads : (k n : ℕ) (f : Focus Act) (w : World) → steps K k (booted K) ≡ Turning n f w → act_has (body_of f Program) w (leaf f) ≡ true
   boot_reads k n f w e =
       config_reads n f w (subst (ConfigFits K) e (steps_fit K proper k (booted K) (booted_fits K proper))) (subst Valued e (steps_valued k (booted K) (booted_fits K proper) booted_valued))
+
+  pub command_reads : (m k n : ℕ) (xs : List Command) (x : Command) (f : Focus Act) (w : World) → done K k x (run K m xs) ≡ Turning n f w → act_has (body_of f Program) w (leaf f) ≡ true
+  command_reads m k n xs x f w e =
+      let t = run_fits K proper m xs in
+      config_reads n f w (subst (ConfigFits K) e (done_fits K proper k x (run K m xs) t)) (subst Valued e (done_valued k x (run K m xs) t (run_valued m xs)))
