@@ -1,10 +1,9 @@
 -- Trees, frames and turns in which all ranges hold.
-use Rattle.std.proofs.Common.{◌≡◌, refl, sym, ap, ◌∙◌, subst, ◌≤◌, ℕ, zero, suc, ◌+◌, ◌-◌, ◌^◌, min, Bool, true, false, if◌then◌else◌, ◌==◌, ◌||◌, List, [], ◌∷◌, Option, Some, None, arith}
-use Rattle.ceu_tree.specs.declared.kernel.KStmt.{out-KStmt}
-use Rattle.ceu_tree.specs.Residual.{Act, Seat, Residual, Over, Run, WaitInput, WaitTime, WaitEvent, WaitForever, InAsync, Block, Open, Loop, Call, Par, Branches, no_branch, branch, Instances, no_instance, instance}
-use Rattle.ceu_tree.specs.Focus.{Frame, OfBlock, OfInstance, OfOpen, OfLoop, OfCall, OfPar, Focus, Here, In, join, join_instances, fill, plug, graft, leaf, has_body}
+use Rattle.std.proofs.Common.{ℕ, Bool, true, false, if◌then◌else◌, Option, Some, None}
+use Rattle.ceu_tree.specs.Residual.{Seat, Residual, Over, Run, WaitInput, WaitTime, WaitEvent, WaitForever, InAsync, Block, Open, Loop, Call, Par, Branches, no_branch, branch, Instances, no_instance, instance}
+use Rattle.ceu_tree.specs.Focus.{Frame, OfBlock, OfInstance, OfOpen, OfLoop, OfCall, OfPar, Focus, Here, In, join, join_instances, fill, plug, graft, has_body}
 use Rattle.ceu_tree.specs.Wake.{each_leaf, each_in_branches, each_in_instances, each_in_body, woken}
-use Rattle.ceu_ranges.specs.Ranges.{counted, in_range, each_in_range, all_in_range, frame_in_range, focus_in_range}
+use Rattle.ceu_ranges.specs.Ranges.{in_range, each_in_range, all_in_range, frame_in_range, focus_in_range}
 
 pub joined : (xs ys : Branches) → each_in_range xs → each_in_range ys → each_in_range (join xs ys)
 unfolding each_in_range

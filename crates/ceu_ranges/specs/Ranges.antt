@@ -1,5 +1,5 @@
 -- Remaining times and counted turns in their ranges.
-use Rattle.std.specs.Prelude.{◌≡◌, ◌≤◌, ℕ, ◌^◌, ◌-◌, List}
+use Rattle.std.specs.Prelude.{◌≤◌, ℕ, ◌^◌, ◌-◌, List}
 use Rattle.ceu_tree.specs.declared.command.Command.{Command}
 use Rattle.ceu_tree.specs.declared.kernel.Kernel.{Kernel}
 use Rattle.ceu_tree.specs.declared.kernel.KLoop.{KLoop}
