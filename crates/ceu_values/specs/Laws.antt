@@ -21,7 +21,7 @@ AbortSpares =
     (K : Kernel) (top : ℕ) (d : Part) (r : Residual) (here : Body) (g : Ground) (w : World) (body : Body) (slot : ℕ) → Proper K → Fits K top d r → On d g → Outside here g (numbers_of r) body slot
     → has body slot w ≡ true → has body slot (aborted r here w) ≡ true
 
--- In every proper kernel a statement reads no slot without a value when it starts, where each slot that is seen from its place has one or is not
+-- In every proper kernel a statement reads no slot of its own body without a value when it starts, where each slot that is seen from its place has one or is not
 -- named by it before it sets it.
 abbrev pub StatementReads : Type 0
 StatementReads =
@@ -40,7 +40,7 @@ CommandValued = (K : Kernel) (n : ℕ) (x : Command) (c : Config) → Proper K �
 abbrev pub RunValued : Type 0
 RunValued = (K : Kernel) (n : ℕ) (xs : List Command) → Proper K → K.codes ≡ [] → Valued (run K n xs)
 
--- So a turn reads no slot without a value: each one that the expressions of the statement at which it is name has one, and each alias that it asks for.
+-- So a turn reads no slot without a value (without code no slot is named by `outer`): each one that the expressions of the statement at which it is name has one, and each alias that it asks for.
 abbrev pub TurnReads : Type 0
 TurnReads = (K : Kernel) (n : ℕ) (f : Focus Act) (w : World) → Proper K → K.codes ≡ [] → TurnFits K (suc n) (program_part K) f → Valued (Turning n f w) → act_has (body_of f Program) w (leaf f) ≡ true
 

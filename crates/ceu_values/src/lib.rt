@@ -18,8 +18,8 @@ pub fn abort_spares()
     ensures { AbortSpares }
 {}
 
-/// In every proper kernel a statement reads no slot without a value when it starts, where each slot that is seen from its place has one or is not named
-/// by it before it sets it.
+/// In every proper kernel a statement reads no slot of its own body without a value when it starts, where each slot that is seen from its place has one
+/// or is not named by it before it sets it.
 pub fn statement_reads()
     ensures { StatementReads }
 {}
