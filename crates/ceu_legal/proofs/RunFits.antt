@@ -43,13 +43,13 @@ runs_act K t n d (Run m b) a h e = go (m == n) e
 runs_act K t n d r a h e = absurd (cc)
 
 module _ (K : Kernel) (proper : is_proper K ≡ true) where
-  root_sound : Sound K proper (program_part K)
+  pub root_sound : Sound K proper (program_part K)
   root_sound = program_static K proper
 
-  root_closed : Closed K proper (program_part K)
+  pub root_closed : Closed K proper (program_part K)
   root_closed node h e = inside_body K proper 0 node (out-KBlock K.body).node (BodyAim (out-KBlock K.body).node ty.S32) refl h e
 
-  turn_of_chosen : (n : ℕ) (d : Part) (f : Focus Act) → ChosenFits K (suc n) Act (runs_at n) d f → TurnFits K (suc n) d f
+  pub turn_of_chosen : (n : ℕ) (d : Part) (f : Focus Act) → ChosenFits K (suc n) Act (runs_at n) d f → TurnFits K (suc n) d f
   turn_of_chosen n d f c = record { part = c.part; around = c.around; acts = runs_act K (suc n) n c.part c.was (leaf f) c.fits c.picked }
 
   config_fits : (n : ℕ) (x : Outcome) (w : World) → Comes K n (program_part K) x → ConfigFits K (config_of n x w)
@@ -200,14 +200,14 @@ module _ (K : Kernel) (proper : is_proper K ≡ true) where
   serve_first_fits k root (Some f) r w d p h c = serve_fits k root f w d p (turn_of_chosen 0 d f c)
 
   -- the leaf that an idle turn serves
-  record AsyncLeaf (d : Part) (x : Unserved) : Type 0 where
-    scope : Scope
-    block : KBlock
-    is : d ≡ AStatement scope x.stmt
-    layer : out-KStmt x.stmt.stmt ≡ KStmt-F.Async block
-    fits : Fits K 1 (ABlock false (async_scope K scope) block) x.inner
+  pub record AsyncLeaf (d : Part) (x : Unserved) : Type 0 where
+    pub scope : Scope
+    pub block : KBlock
+    pub is : d ≡ AStatement scope x.stmt
+    pub layer : out-KStmt x.stmt.stmt ≡ KStmt-F.Async block
+    pub fits : Fits K 1 (ABlock false (async_scope K scope) block) x.inner
 
-  async_leaf : (d : Part) (r : Residual) (x : Unserved) → Fits K 0 d r → unserved r ≡ Some x → AsyncLeaf d x
+  pub async_leaf : (d : Part) (r : Residual) (x : Unserved) → Fits K 0 d r → unserved r ≡ Some x → AsyncLeaf d x
   async_leaf d (InAsync s false r) x (at_async {sc = sc} b e h) q =
       subst (AsyncLeaf (AStatement sc s)) (ap (λ o. elim o [ None ↦ record { stmt = s; inner = r } | Some y ↦ y ]) q) (record { scope = sc; block = b; is = refl; layer = e; fits = h })
   async_leaf d r x h q = absurd (cc)
@@ -230,7 +230,7 @@ module _ (K : Kernel) (proper : is_proper K ≡ true) where
       let p = async_sound l.scope (leaf g).stmt l.block l.layer (around_sound K proper a root_sound) in
       after_fits k g _ r w l.scope l.block h a l.layer (serve_first_fits k (body_of g Program) _ (leaf g).inner w _ p l.fits (choice_fits K 1 Act (runs_at 0) l.fits))
 
-  idle_turn_fits : (k : ℕ) (c : Config) → ConfigFits K c → ConfigFits K (idle_turn K k c)
+  pub idle_turn_fits : (k : ℕ) (c : Config) → ConfigFits K c → ConfigFits K (idle_turn K k c)
   idle_turn_fits k (Waiting r w) h = go (choose Unserved unserved r) (choice_fits K 0 Unserved unserved h)
     where
       again : Residual

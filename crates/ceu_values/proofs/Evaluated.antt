@@ -1,37 +1,30 @@
 -- A statement that may name what it names reads no slot without a value when it starts.
-use Rattle.std.proofs.Common.{◌≡◌, refl, sym, ap, ◌∙◌, subst, ◌<◌, ◌≤◌, ℕ, zero, suc, ◌+◌, Bool, true, false, not, if◌then◌else◌, ◌==◌, ◌&&◌, ◌||◌, ◌⊎◌, inl, inr, List, [], ◌∷◌, ◌++◌, Option, Some, None, arith, eqb-true, eq-eqb}
-use Rattle.std.proofs.lemmas.Bool.{and_parts, and_from, or_cases, false≢true}
+use Rattle.std.proofs.Common.{◌≡◌, refl, sym, ap, subst, ◌≤◌, ℕ, suc, Bool, true, false, not, if◌then◌else◌, ◌==◌, ◌&&◌, ◌||◌, ◌⊎◌, inl, inr, List, [], ◌∷◌, ◌++◌, Option, Some, None, arith, eq-eqb}
+use Rattle.std.proofs.lemmas.Bool.{and_parts, and_from, false≢true}
 use Rattle.ceu_base.specs.declared.kinds.Ty.{Ty}
 use Rattle.ceu_base.specs.declared.kinds.Ty.TheVariants as ty
-use Rattle.ceu_base.specs.declared.kinds.Op1.{Op1}
 use Rattle.ceu_tree.specs.declared.kernel.Kernel.{Kernel}
 use Rattle.ceu_tree.specs.declared.kernel.KCode.{KCode}
 use Rattle.ceu_tree.specs.declared.kernel.KDecl.{KDecl}
 use Rattle.ceu_tree.specs.declared.kernel.KKind.{KKind}
 use Rattle.ceu_tree.specs.declared.kernel.KKind.TheVariants as kind
-use Rattle.ceu_tree.specs.declared.kernel.KLoop.{KLoop}
 use Rattle.ceu_tree.specs.declared.kernel.KLoop.TheVariants as turns
 use Rattle.ceu_tree.specs.declared.kernel.Loc.{Loc}
 use Rattle.ceu_tree.specs.declared.kernel.KExp.{KExp}
 use Rattle.ceu_tree.specs.declared.kernel.KExpNode as exp
 use Rattle.ceu_tree.specs.declared.kernel.KExpNode.{KExpNode, Row_of-KExp, end_of-KExp, more_of-KExp, One', Two', As'}
-use Rattle.ceu_tree.specs.declared.kernel.KNode.{KNode}
 use Rattle.ceu_tree.specs.declared.kernel.KArm.{KArm, KArm', out-KArm}
-use Rattle.ceu_tree.specs.declared.kernel.KBlock.{KBlock}
 use Rattle.ceu_tree.specs.declared.kernel.KStmt as kernel
 use Rattle.ceu_tree.specs.declared.kernel.KStmt.{KStmt, out-KStmt, If', Row_of-KArm, end_of-KArm, more_of-KArm, items-the_row-KArm, items_shown-the_row-KArm-0}
-use Rattle.ceu_tree.specs.declared.kernel.KStmt.TheOpen.{KStmt-F}
 use Rattle.ceu_tree.specs.Residual.{Body}
 use Rattle.ceu_tree.specs.World.{World}
-use Rattle.ceu_tree.specs.Leaf.{Layer, code_at}
+use Rattle.ceu_tree.specs.Leaf.{code_at}
 use denote.Hole.Carrier
 use Rattle.ceu_tree.specs.Typing.{node_typed, operand_typed, holds_all, is_amount, typed}
-use Rattle.ceu_tree.specs.Mentions.{named_by, loc_names, own_names, maybe_loc, maybe_own, node_names, operand_names, exp_names, maybe_exp, exps_names, turns_names, block_names, arm_names, arms_names, stmt_names, sets, count_of, is_loc, is_slot, outer_names_from}
-use Rattle.ceu_tree.specs.Proper.{Scope, SlotKind, IsVariable, IsLoopVariable, IsPool, IsAlias, find, variable_ty, has_ty, is_alias, looked_up, reads, asks, Aim, DoAim, BodyAim, LoopAim, gives, gives_if, gives_all, takes, takes_if, on_ty, on_code, is_above, escape_ok, arm_ok, arms_ok, block_ok, stmt_ok, port_ty, event_seen, event_at, time_ok, loop_ok, is_pool_of, alias_takes, outside_asyncs, outside_finalizers, is_trail}
-use Rattle.ceu_legal.specs.Shape.{Part, AStatement}
+use Rattle.ceu_tree.specs.Mentions.{named_by, loc_names, maybe_loc, maybe_own, node_names, operand_names, exp_names, maybe_exp, exps_names, block_names, arm_names, arms_names, stmt_names, sets, count_of, is_slot, outer_names_from}
+use Rattle.ceu_tree.specs.Proper.{Scope, SlotKind, IsVariable, IsLoopVariable, IsPool, IsAlias, find, variable_ty, has_ty, is_alias, looked_up, reads, asks, Aim, DoAim, BodyAim, LoopAim, gives, gives_if, gives_all, takes, takes_if, on_ty, on_code, is_above, escape_ok, arm_ok, arms_ok, block_ok, stmt_ok, port_ty, event_seen, event_at, time_ok, loop_ok, alias_takes, outside_asyncs, outside_finalizers, is_trail}
 use Rattle.ceu_values.specs.Ground.{has}
-use Rattle.ceu_values.specs.Ready.{is_cell, node_has, operand_has, exp_has, exps_have, maybe_has, conditions_have, turns_have, layer_has, Ready}
-use Rattle.ceu_values.proofs.Stores.{or_right}
+use Rattle.ceu_values.specs.Ready.{is_cell, node_has, operand_has, exp_has, exps_have, maybe_has, conditions_have, layer_has}
 use Rattle.ceu_values.proofs.Names.{count_append, loc_named}
 
 module _ (K : Kernel) (sc : Scope) (body : Body) (w : World) where

@@ -1,26 +1,24 @@
 -- Programs without code: an abortion of what is inside a part, or the end of a block, forgets nothing beside the part's ground.
-use Rattle.std.proofs.Common.{◌≡◌, refl, sym, ap, ◌∙◌, subst, ◌<◌, ◌≤◌, ℕ, zero, suc, ◌+◌, Bool, true, false, List, [], ◌∷◌, ◌++◌, length, length-append, Option, Some, None, arith}
+use Rattle.std.proofs.Common.{◌≡◌, refl, sym, ap, subst, ◌≤◌, ℕ, ◌+◌, true, List, [], ◌∷◌, ◌++◌, length, length-append, arith}
 use Rattle.ceu_tree.specs.declared.kernel.Kernel.{Kernel}
-use Rattle.ceu_tree.specs.declared.kernel.ParKind.{ParKind}
 use Rattle.ceu_tree.specs.declared.kernel.KNode.{KNode}
 use Rattle.ceu_tree.specs.declared.kernel.KBlock.{KBlock, out-KBlock}
-use Rattle.ceu_tree.specs.declared.kernel.KStmt.{out-KStmt}
 use Rattle.ceu_tree.specs.declared.kernel.KStmt.TheOpen.{KStmt-F}
-use Rattle.ceu_tree.specs.Residual.{Body, Program, Act, Residual, Over, Block, Open, Loop, Call, Par, Branches, no_branch, branch, Instances}
-use Rattle.ceu_tree.specs.Focus.{Frame, OfBlock, OfInstance, OfOpen, OfLoop, OfCall, OfPar, Focus, Here, In, join, fill, plug}
+use Rattle.ceu_tree.specs.Residual.{Body, Program, Act, Residual, Over, Branches, no_branch, branch, Instances}
+use Rattle.ceu_tree.specs.Focus.{Frame, Focus, Here, In, join, fill, plug}
 use Rattle.ceu_tree.specs.World.{World}
 use Rattle.ceu_tree.specs.Abort.{aborted, branches_aborted, instances_aborted, closed}
 use Rattle.ceu_tree.specs.Numbering.{counts_from, decl_slots, block_slots, block_nodes}
 use Rattle.ceu_tree.specs.Proper.{Scope, is_proper}
-use Rattle.ceu_legal.specs.Shape.{Part, ABlock, AStatement, AnEnd, AllFit, EachFits, FrameFits, around_statement, around_end, around_instance, around_part, around_turn, around_call, around_branch, Around, nothing_around, one_around}
+use Rattle.ceu_legal.specs.Shape.{Part, AllFit, FrameFits, around_statement, around_end, around_instance, around_part, around_turn, around_call, around_branch, Around, nothing_around, one_around}
 use Rattle.ceu_legal.proofs.UpFits.{Sound, frame_sound}
-use Rattle.ceu_values.specs.Ground.{has, numbers_of, numbers_among, numbers_in, Ground, Numbered, On}
-use Rattle.ceu_values.proofs.Counts.{counts_parts, Inner, inner_then, slots_all, block_slots_is}
-use Rattle.ceu_values.proofs.Grounds.{InStatement, inner_ground, InBranches, branch_ground}
+use Rattle.ceu_values.specs.Ground.{has, numbers_among, numbers_in, Ground, Numbered, On}
+use Rattle.ceu_values.proofs.Counts.{counts_parts, slots_all, block_slots_is}
+use Rattle.ceu_values.proofs.Grounds.{inner_ground, branch_ground}
 use Rattle.ceu_values.proofs.Stores.{forget_declared_spares, finalized_keeps}
 use Rattle.ceu_values.proofs.Spares.{declared_apart, turns_spared, each_spares, all_spares}
 use Rattle.ceu_values.proofs.Positions.{Beside, beside_outside, beside_inner}
-use Rattle.ceu_values.proofs.NeedsAt.{no_code, LowAt, FrameGround, frame_ground}
+use Rattle.ceu_values.proofs.NeedsAt.{no_code, LowAt, frame_ground}
 
 pub branches_joined : (xs ys : Branches) (here : Body) (w : World) → branches_aborted (join xs ys) here w ≡ branches_aborted xs here (branches_aborted ys here w)
 unfolding branches_aborted

@@ -1,23 +1,21 @@
 -- The ground of the parts of a part.
-use Rattle.std.proofs.Common.{◌≡◌, refl, sym, ap, ◌∙◌, subst, ◌<◌, ◌≤◌, ℕ, zero, suc, ◌+◌, Bool, true, false, ◌==◌, ◌&&◌, ◌||◌, ◌⊎◌, inl, inr, List, [], ◌∷◌, ◌++◌, length, length-append, append_assoc, Option, Some, None, arith, eqb-true}
-use Rattle.std.proofs.lemmas.Bool.{and_parts, false≢true}
+use Rattle.std.proofs.Common.{◌≡◌, refl, sym, ap, ◌∙◌, subst, ◌<◌, ◌≤◌, ℕ, zero, suc, ◌+◌, true, ◌==◌, inl, inr, List, [], ◌∷◌, ◌++◌, length, length-append, append_assoc, Some, None, arith, eqb-true}
+use Rattle.std.proofs.lemmas.Bool.{and_parts}
 use Rattle.ceu_tree.specs.declared.kernel.Kernel.{Kernel}
 use Rattle.ceu_tree.specs.declared.kernel.KCode.{KCode}
-use Rattle.ceu_tree.specs.declared.kernel.KLoop.{KLoop}
-use Rattle.ceu_tree.specs.declared.kernel.ParKind.{ParKind}
 use Rattle.ceu_tree.specs.declared.kernel.KNode.{KNode}
 use Rattle.ceu_tree.specs.declared.kernel.KArm.{KArm, out-KArm}
 use Rattle.ceu_tree.specs.declared.kernel.KBlock.{KBlock, out-KBlock}
-use Rattle.ceu_tree.specs.declared.kernel.KStmt.{KStmt, out-KStmt}
+use Rattle.ceu_tree.specs.declared.kernel.KStmt.{out-KStmt}
 use Rattle.ceu_tree.specs.declared.kernel.KStmt.TheOpen.{KStmt-F}
 use Rattle.ceu_tree.specs.Leaf.{Layer, code_at}
 use Rattle.ceu_base.specs.declared.kinds.Ty.TheVariants as ty
 use Rattle.ceu_tree.specs.Mentions.{outer_names_from}
 use Rattle.ceu_tree.specs.Proper.{is_proper, codes_ok, block_ok, body_scope, events_ok, ports_ok}
-use Rattle.ceu_tree.specs.Numbering.{counts_from, stmt_nodes, block_nodes, decl_slots, loop_slots, par_slots, stmt_slots, block_slots, codes_nodes, codes_slots, is_numbered}
-use Rattle.ceu_legal.specs.Shape.{Part, ABlock, AStatement, AnEnd, among_arms, opens_part, code_part, program_part}
-use Rattle.ceu_values.specs.Ground.{Ground, Numbered, On}
-use Rattle.ceu_values.proofs.Counts.{counts_parts, Halves, halves, counted_within, Inner, inner_then, slots_all, nodes_all, blocks_slots_all, blocks_nodes_all, arms_slots_all, arms_nodes_all, block_slots_is, block_nodes_is, hidden_slots, inner_slots, inner_nodes, stmt_slots_is, stmt_nodes_is}
+use Rattle.ceu_tree.specs.Numbering.{counts_from, stmt_nodes, block_nodes, decl_slots, stmt_slots, block_slots, codes_nodes, codes_slots, is_numbered}
+use Rattle.ceu_legal.specs.Shape.{among_arms, opens_part}
+use Rattle.ceu_values.specs.Ground.{Ground, Numbered}
+use Rattle.ceu_values.proofs.Counts.{counts_parts, Halves, halves, Inner, inner_then, slots_all, nodes_all, blocks_slots_all, blocks_nodes_all, arms_slots_all, arms_nodes_all, block_slots_is, block_nodes_is, hidden_slots, inner_slots, inner_nodes, stmt_slots_is, stmt_nodes_is}
 
 -- a part with a ground of its own
 pub record Within (slots nodes : List ℕ) (g : Ground) : Type 0 where

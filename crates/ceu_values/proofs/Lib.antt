@@ -12,3 +12,4 @@ pub mod UpValues
 pub mod ThroughValues
 pub mod StepValues
 pub mod StepFine
+pub mod RunValues

@@ -1,6 +1,6 @@
 -- Programs without code: the slots that a part needs lie on its ground or are seen from its place.
-use Rattle.std.proofs.Common.{◌≡◌, refl, sym, ap, ◌∙◌, subst, ◌<◌, ◌≤◌, ℕ, zero, suc, ◌+◌, Bool, true, false, not, if◌then◌else◌, ◌==◌, ◌&&◌, ◌||◌, ◌⊎◌, inl, inr, List, [], ◌∷◌, ◌++◌, length, Option, Some, None, arith, eqb-true, eq-eqb}
-use Rattle.std.proofs.lemmas.Bool.{and_parts, and_from, or_cases, false≢true, cases_lt}
+use Rattle.std.proofs.Common.{◌≡◌, refl, sym, ap, ◌∙◌, subst, ◌<◌, ◌≤◌, ℕ, ◌+◌, Bool, true, false, not, if◌then◌else◌, ◌==◌, ◌&&◌, ◌⊎◌, inl, inr, List, [], ◌∷◌, ◌++◌, length, Option, Some, None, arith, eqb-true}
+use Rattle.std.proofs.lemmas.Bool.{and_parts, or_cases, false≢true, cases_lt}
 use Rattle.ceu_base.specs.declared.kinds.Ty.{Ty}
 use Rattle.ceu_base.specs.declared.kinds.Ty.TheVariants as ty
 use Rattle.ceu_tree.specs.declared.kernel.Kernel.{Kernel}
@@ -14,21 +14,21 @@ use Rattle.ceu_tree.specs.declared.kernel.KBlock.{KBlock, out-KBlock}
 use Rattle.ceu_tree.specs.declared.kernel.KStmt as kernel
 use Rattle.ceu_tree.specs.declared.kernel.KStmt.{KStmt, out-KStmt}
 use Rattle.ceu_tree.specs.declared.kernel.KStmt.TheOpen.{KStmt-F}
-use Rattle.ceu_tree.specs.Residual.{Body, Program, Act, Residual, Over, Run, InAsync, Block, Open, Loop, Call, Par, Branches, no_branch, branch, Instances}
-use Rattle.ceu_tree.specs.Focus.{Frame, OfBlock, OfInstance, OfOpen, OfLoop, OfCall, OfPar, Focus, Here, In}
+use Rattle.ceu_tree.specs.Residual.{Residual, Branches}
+use Rattle.ceu_tree.specs.Focus.{Frame, OfBlock}
 use Rattle.ceu_tree.specs.Leaf.{Layer, code_at}
 use Rattle.ceu_tree.specs.Legal.{before, is_set}
 use Rattle.ceu_tree.specs.Mentions.{is_loc, await_target, body_target}
 use Rattle.ceu_tree.specs.Numbering.{counts_from, decl_slots, loop_slots, stmt_slots, stmt_nodes, block_slots, block_nodes}
-use Rattle.ceu_tree.specs.Proper.{Scope, SlotKind, IsVariable, IsLoopVariable, IsPool, IsAlias, find, pool_slots, pools_seen, is_in_code, is_trail, is_proper, stmt_ok, declared_seen, variable_ty, has_ty, looked_up, reads, takes, takes_if, on_ty, on_code, is_above, port_ty, event_seen, event_at, time_ok, gives_all}
-use Rattle.ceu_legal.specs.Shape.{Part, ABlock, AStatement, AnEnd, block_scope, part_scope, turn_scope, async_scope, opens_part, Fits, to_begin, to_turn, in_list, to_finish, at_input, at_time, at_event, at_forever, at_async, in_part, in_turn, in_call, in_par, EachFits, no_more, an_ended, a_branch, AllFit, FrameFits, around_statement, around_end, around_instance, around_part, around_turn, around_call, around_branch, Around, nothing_around, one_around}
-use Rattle.ceu_legal.proofs.Static.{BlockOk, StmtOk, nodes_fine, each_fine, block_static, names_of, layer_fine}
-use Rattle.ceu_legal.proofs.UpFits.{Sound, layer_of, list_sound, part_sound, frame_sound, each_at}
+use Rattle.ceu_tree.specs.Proper.{Scope, SlotKind, IsVariable, IsLoopVariable, IsPool, IsAlias, find, pool_slots, pools_seen, is_in_code, is_trail, is_proper, stmt_ok, declared_seen, variable_ty, has_ty, reads, takes_if, on_ty, is_above, port_ty, event_seen, event_at, time_ok, gives_all}
+use Rattle.ceu_legal.specs.Shape.{Part, ABlock, AStatement, AnEnd, block_scope, part_scope, turn_scope, opens_part, Fits, to_begin, to_turn, in_list, to_finish, at_input, at_time, at_event, at_forever, at_async, in_part, in_turn, in_call, in_par, EachFits, no_more, an_ended, a_branch, FrameFits, around_statement, around_end, around_instance, around_part, around_turn, around_call, around_branch}
+use Rattle.ceu_legal.proofs.Static.{BlockOk, nodes_fine, each_fine, block_static, names_of}
+use Rattle.ceu_legal.proofs.UpFits.{Sound, layer_of, list_sound, part_sound}
 use Rattle.ceu_values.specs.Ground.{Ground, Numbered, On}
 use Rattle.ceu_values.specs.Ready.{is_cell, declares}
 use Rattle.ceu_values.specs.Needed.{some_done, block_needs, own_variable, turn_needs, needs, each_needs, frame_needs}
-use Rattle.ceu_values.proofs.Counts.{Halves, halves, Inner, inner_then, blocks_slots_all, blocks_nodes_all}
-use Rattle.ceu_values.proofs.Grounds.{InBlock, list_ground, InStatement, inner_ground, hidden_counts, Within, part_ground, InBranches, branch_ground}
+use Rattle.ceu_values.proofs.Counts.{halves, Inner, inner_then, blocks_slots_all, blocks_nodes_all}
+use Rattle.ceu_values.proofs.Grounds.{InBlock, list_ground, inner_ground, hidden_counts, part_ground, branch_ground}
 use Rattle.ceu_values.proofs.Names.{head_target, body_target_is}
 use Rattle.ceu_values.proofs.Readies.{find_cell}
 use Rattle.ceu_values.proofs.Positions.{declared_within, Low, low_inner, low_list, low_part, low_turn, Beside}
@@ -288,9 +288,12 @@ module _ (K : Kernel) (proper : is_proper K ≡ true) (plain : K.codes ≡ []) w
   frame_ground (around_turn {sc = sc} {s = s} k b e c) g on low ok =
       let i = inner_ground s (KStmt-F.Loop k b) g e on in
       record {
-        ground = i.ground; on = i.on; low = low_turn K sc s k b g i e on low; inner = i.inner;
+        ground = i.ground;
+        on = i.on;
+        low = low_turn K sc s k b g i e on low;
+        inner = i.inner;
         apart = λ x first h. (let a = and_parts (not first) (turn_needs (out-KStmt s.stmt) x) h in let q = turn_is s (KStmt-F.Loop k b) x e a.1 in
-        let z = own_is s k b g x e on q in let y = own_room s k b g x e on q in inl (omega (arith, z, y.1, i.behind)));
+            let z = own_is s k b g x e on q in let y = own_room s k b g x e on q in inl (omega (arith, z, y.1, i.behind)));
       }
   frame_ground (around_call c es f t k e q) g on low ok = absurd (no_code c k q)
   frame_ground (around_branch {sc = sc} {s = s} {before = front} {after = back} k slot bs b cs e p q) g on low ok =
@@ -299,7 +302,10 @@ module _ (K : Kernel) (proper : is_proper K ≡ true) (plain : K.codes ≡ []) w
       let l = low_inner sc g i.ground i.inner low in
       let fine = each_halves sc bs (b ∷ cs) (layer_of K proper sc s (KStmt-F.Par k slot (bs ++ b ∷ cs)) e ok).1 in
       record {
-        ground = j.ground; on = j.on; low = low_inner sc i.ground j.ground j.inner l; inner = inner_then j.ground i.ground g j.inner i.inner;
+        ground = j.ground;
+        on = j.on;
+        low = low_inner sc i.ground j.ground j.inner l;
+        inner = inner_then j.ground i.ground g j.inner i.inner;
         apart = λ x first h. beside_branch sc j.before j.ground j.after front back x j.slots_before j.slots_after (low_inner sc i.ground j.ground j.inner l) (or_cases (each_needs front x) (each_needs back x) h)
             (each_placed p j.before x j.on_before (low_inner sc i.ground j.before j.inner_before l) fine.0) (each_placed q j.after x j.on_after (low_inner sc i.ground j.after j.inner_after l) fine.1.1);
       }

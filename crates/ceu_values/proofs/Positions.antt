@@ -1,30 +1,28 @@
 -- Where a block stands, which slots are seen from its parts, and on which ground they stand.
-use Rattle.std.proofs.Common.{◌≡◌, refl, sym, ap, ◌∙◌, subst, ◌<◌, ◌≤◌, ℕ, zero, suc, ◌+◌, Bool, true, false, not, if◌then◌else◌, ◌==◌, ◌&&◌, ◌||◌, ◌⊎◌, inl, inr, List, [], ◌∷◌, ◌++◌, length, length-append, Option, Some, None, arith, eqb-true, eq-eqb}
+use Rattle.std.proofs.Common.{◌≡◌, refl, sym, ap, ◌∙◌, ◌<◌, ◌≤◌, ℕ, suc, ◌+◌, Bool, true, false, if◌then◌else◌, ◌==◌, ◌&&◌, ◌⊎◌, inl, inr, List, [], ◌∷◌, ◌++◌, length, length-append, Some, None, arith, eqb-true, eq-eqb}
 use Rattle.std.proofs.lemmas.Bool.{and_parts, and_from, or_cases, false≢true}
 use Rattle.ceu_tree.specs.declared.kernel.Kernel.{Kernel}
-use Rattle.ceu_tree.specs.declared.kernel.KCode.{KCode}
 use Rattle.ceu_tree.specs.declared.kernel.KDecl.{KDecl}
 use Rattle.ceu_tree.specs.declared.kernel.KKind.{KKind}
 use Rattle.ceu_tree.specs.declared.kernel.KKind.TheVariants as kind
 use Rattle.ceu_tree.specs.declared.kernel.KLoop.{KLoop}
 use Rattle.ceu_tree.specs.declared.kernel.KLoop.TheVariants as turns
-use Rattle.ceu_tree.specs.declared.kernel.ParKind.{ParKind}
 use Rattle.ceu_tree.specs.declared.kernel.KNode.{KNode}
 use Rattle.ceu_tree.specs.declared.kernel.KBlock.{KBlock, out-KBlock}
-use Rattle.ceu_tree.specs.declared.kernel.KStmt.{KStmt, out-KStmt}
+use Rattle.ceu_tree.specs.declared.kernel.KStmt.{out-KStmt}
 use Rattle.ceu_tree.specs.declared.kernel.KStmt.TheOpen.{KStmt-F}
-use Rattle.ceu_tree.specs.Residual.{Body, Program}
+use Rattle.ceu_tree.specs.Residual.{Program}
 use Rattle.ceu_tree.specs.Leaf.{Layer, rest_of}
 use Rattle.ceu_tree.specs.Legal.{same_nodes, before, is_set}
 use Rattle.ceu_tree.specs.Mentions.{is_set_decl, sets}
-use Rattle.ceu_tree.specs.Numbering.{counts_from, decl_slots, stmt_slots, stmt_nodes, block_slots, block_nodes, loop_slots}
+use Rattle.ceu_tree.specs.Numbering.{counts_from, decl_slots, stmt_slots, stmt_nodes, block_slots, block_nodes}
 use Rattle.ceu_tree.specs.Proper.{Scope, Seen, IsLoopVariable, find, declared_seen, slot_kind, pool_slots, pools_seen, is_in_code}
 use Rattle.ceu_tree.specs.World.{is_among}
-use Rattle.ceu_legal.specs.Shape.{Part, ABlock, AStatement, AnEnd, block_scope, part_scope, turn_scope, async_scope, opens_part}
-use Rattle.ceu_values.specs.Ground.{Ground, Numbered, On, Outside}
+use Rattle.ceu_legal.specs.Shape.{block_scope, part_scope, turn_scope, opens_part}
+use Rattle.ceu_values.specs.Ground.{Ground, Numbered, Outside}
 use Rattle.ceu_values.specs.Ready.{is_cell, declares}
-use Rattle.ceu_values.proofs.Counts.{counted_within, Inner, inner_then, blocks_slots_all, blocks_nodes_all, inner_slots, inner_nodes}
-use Rattle.ceu_values.proofs.Grounds.{InBlock, list_ground, InStatement, inner_ground, hidden_counts, Within, part_ground, InBranches, branch_ground}
+use Rattle.ceu_values.proofs.Counts.{counted_within, Inner}
+use Rattle.ceu_values.proofs.Grounds.{InBlock, InStatement, hidden_counts}
 use Rattle.ceu_values.proofs.Stores.{or_left, or_right}
 use Rattle.ceu_values.proofs.Readies.{find_cell}
 

@@ -1,6 +1,6 @@
 -- A part that may name what it names has parts that may, too.
-use Rattle.std.proofs.Common.{◌≡◌, refl, sym, ap, ◌∙◌, subst, ◌<◌, ◌≤◌, ℕ, zero, suc, ◌+◌, Bool, true, false, not, if◌then◌else◌, ◌==◌, ◌&&◌, ◌||◌, ◌⊎◌, inl, inr, List, [], ◌∷◌, ◌++◌, Option, Some, None, arith, eqb-true, eq-eqb}
-use Rattle.std.proofs.lemmas.Bool.{and_parts, and_from, or_cases, false≢true}
+use Rattle.std.proofs.Common.{◌≡◌, refl, sym, ap, ◌∙◌, subst, ◌≤◌, ℕ, ◌+◌, Bool, true, false, if◌then◌else◌, ◌==◌, ◌&&◌, ◌||◌, ◌⊎◌, inl, inr, List, [], ◌∷◌, ◌++◌, Some, None, arith}
+use Rattle.std.proofs.lemmas.Bool.{false≢true}
 use Rattle.ceu_tree.specs.declared.kernel.Kernel.{Kernel}
 use Rattle.ceu_tree.specs.declared.kernel.KCode.{KCode}
 use Rattle.ceu_tree.specs.declared.kernel.KDecl.{KDecl}
@@ -8,21 +8,19 @@ use Rattle.ceu_tree.specs.declared.kernel.KKind.{KKind}
 use Rattle.ceu_tree.specs.declared.kernel.KKind.TheVariants as kind
 use Rattle.ceu_tree.specs.declared.kernel.KLoop.{KLoop}
 use Rattle.ceu_tree.specs.declared.kernel.KLoop.TheVariants as turns
-use Rattle.ceu_tree.specs.declared.kernel.Loc.{Loc}
 use Rattle.ceu_tree.specs.declared.kernel.ParKind.{ParKind}
-use Rattle.ceu_tree.specs.declared.kernel.KExp.{KExp}
 use Rattle.ceu_tree.specs.declared.kernel.KNode.{KNode}
 use Rattle.ceu_tree.specs.declared.kernel.KArm.{KArm, out-KArm}
 use Rattle.ceu_tree.specs.declared.kernel.KBlock.{KBlock, out-KBlock}
-use Rattle.ceu_tree.specs.declared.kernel.KStmt.{KStmt, out-KStmt}
+use Rattle.ceu_tree.specs.declared.kernel.KStmt.{out-KStmt}
 use Rattle.ceu_tree.specs.declared.kernel.KStmt.TheOpen.{KStmt-F}
-use Rattle.ceu_tree.specs.Residual.{Body, Program, Awaited}
+use Rattle.ceu_tree.specs.Residual.{Body}
 use Rattle.ceu_tree.specs.World.{World}
 use Rattle.ceu_tree.specs.Leaf.{Layer}
 use Rattle.ceu_tree.specs.Legal.{is_set}
 use Rattle.ceu_tree.specs.Mentions.{maybe_loc, exp_names, stmt_names, block_names, turns_names, count_of, is_loc, body_target, sets, is_set_decl, outer_names_from}
-use Rattle.ceu_tree.specs.Proper.{Scope, Seen, SlotKind, IsLoopVariable, find, declared_seen, slot_kind, pool_slots, pools_seen, block_ok}
-use Rattle.ceu_legal.specs.Shape.{Part, ABlock, AStatement, AnEnd, block_scope, part_scope, turn_scope, async_scope, code_scope, code_part, program_part, among_arms, opens_part}
+use Rattle.ceu_tree.specs.Proper.{Scope, Seen, IsLoopVariable, find, declared_seen, slot_kind, pool_slots, pools_seen, block_ok}
+use Rattle.ceu_legal.specs.Shape.{ABlock, AStatement, block_scope, part_scope, turn_scope, async_scope, code_part, program_part, among_arms, opens_part}
 use Rattle.ceu_values.specs.Ground.{has}
 use Rattle.ceu_values.specs.Needed.{own_variable}
 use Rattle.ceu_values.specs.Ready.{is_cell, declares, stmt_named, block_named, Ready}

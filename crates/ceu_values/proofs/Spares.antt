@@ -1,27 +1,25 @@
 -- An abortion forgets no value outside the part that is aborted.
-use Rattle.std.proofs.Common.{◌≡◌, refl, sym, ap, ◌∙◌, subst, ◌<◌, ◌≤◌, ℕ, zero, suc, ◌+◌, Bool, true, false, not, ◌==◌, ◌&&◌, ◌||◌, ◌⊎◌, inl, inr, List, [], ◌∷◌, ◌++◌, length, Option, Some, None, arith, eqb-true, eq-eqb}
+use Rattle.std.proofs.Common.{◌≡◌, refl, sym, ap, ◌∙◌, subst, ◌<◌, ◌≤◌, ℕ, ◌+◌, true, ◌==◌, ◌⊎◌, inl, inr, List, [], ◌∷◌, ◌++◌, length, arith, eqb-true, eq-eqb}
 use Rattle.std.proofs.lemmas.Bool.{and_parts, or_cases, false≢true}
 use Rattle.ceu_tree.specs.declared.kernel.Kernel.{Kernel}
-use Rattle.ceu_tree.specs.declared.kernel.KCode.{KCode}
 use Rattle.ceu_tree.specs.declared.kernel.KDecl.{KDecl}
 use Rattle.ceu_tree.specs.declared.kernel.KLoop.{KLoop}
 use Rattle.ceu_tree.specs.declared.kernel.KLoop.TheVariants as turns
 use Rattle.ceu_tree.specs.declared.kernel.ParKind.{ParKind}
 use Rattle.ceu_tree.specs.declared.kernel.KNode.{KNode}
 use Rattle.ceu_tree.specs.declared.kernel.KBlock.{KBlock, out-KBlock}
-use Rattle.ceu_tree.specs.declared.kernel.KStmt.{KStmt, out-KStmt}
+use Rattle.ceu_tree.specs.declared.kernel.KStmt.{out-KStmt}
 use Rattle.ceu_tree.specs.declared.kernel.KStmt.TheOpen.{KStmt-F}
-use Rattle.ceu_tree.specs.Residual.{Body, Program, Awaited, Spawned, same_body, Seat, Residual, Over, Run, WaitInput, WaitTime, WaitEvent, WaitForever, InAsync, Block, Open, Loop, Call, Par, Branches, no_branch, branch, Instances, no_instance, instance}
-use Rattle.ceu_tree.specs.World.{World, is_among, forget, forget_declared, forget_body, dead}
-use Rattle.ceu_tree.specs.Abort.{finalized, forget_loop, forget_turns, returned, aborted, branches_aborted, instances_aborted}
+use Rattle.ceu_tree.specs.Residual.{Body, Awaited, Spawned, same_body, Residual, Branches, Instances}
+use Rattle.ceu_tree.specs.World.{World, is_among}
+use Rattle.ceu_tree.specs.Abort.{forget_loop, forget_turns, aborted, branches_aborted, instances_aborted}
 use Rattle.ceu_tree.specs.Proper.{Scope, is_proper}
-use Rattle.ceu_tree.specs.Numbering.{counts_from, decl_slots, block_slots, block_nodes, stmt_slots, stmt_nodes, loop_slots}
-use Rattle.ceu_tree.specs.Leaf.{Layer, code_at}
-use Rattle.ceu_legal.specs.Shape.{Part, ABlock, AStatement, AnEnd, code_part, Fits, to_begin, to_turn, in_list, to_finish, at_input, at_time, at_event, at_forever, at_async, in_part, in_turn, in_call, in_par, EachFits, no_more, an_ended, a_branch, AllFit, none_lives, one_lives}
+use Rattle.ceu_tree.specs.Numbering.{counts_from, decl_slots, block_slots, block_nodes, stmt_slots, stmt_nodes}
+use Rattle.ceu_legal.specs.Shape.{Part, Fits, to_begin, to_turn, in_list, to_finish, at_input, at_time, at_event, at_forever, at_async, in_part, in_turn, in_call, in_par, EachFits, no_more, an_ended, a_branch, AllFit, none_lives, one_lives}
 use Rattle.ceu_values.specs.Ground.{has, under, rooted, numbers_of, numbers_among, numbers_in, Ground, Numbered, On, Outside}
-use Rattle.ceu_values.proofs.Counts.{counted_within, Halves, halves, Inner, inner_then, blocks_slots_all, blocks_nodes_all}
-use Rattle.ceu_values.proofs.Grounds.{InBlock, list_ground, InStatement, inner_ground, own_node, hidden_counts, Within, part_ground, CodeGround, code_ground}
-use Rattle.ceu_values.proofs.Stores.{same_is, under_own, under_further, rooted_own, rooted_further, never_true, or_left, or_right, forget_spares, forget_body_spares, forget_declared_spares, finalized_keeps, forget_layer, forget_loop_is}
+use Rattle.ceu_values.proofs.Counts.{counted_within, halves, Inner, blocks_slots_all, blocks_nodes_all}
+use Rattle.ceu_values.proofs.Grounds.{list_ground, inner_ground, own_node, hidden_counts, part_ground, code_ground}
+use Rattle.ceu_values.proofs.Stores.{under_own, under_further, rooted_own, rooted_further, never_true, or_left, or_right, forget_spares, forget_body_spares, forget_declared_spares, finalized_keeps, forget_layer, forget_loop_is}
 
 -- ---- what is outside a part is outside its parts
 

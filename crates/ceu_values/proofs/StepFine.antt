@@ -1,64 +1,32 @@
 -- Programs without code: one step of the whole.
-use Rattle.std.proofs.Common.{◌≡◌, refl, sym, ap, ◌∙◌, subst, ◌<◌, ◌≤◌, ℕ, zero, suc, ◌+◌, ℤ, pos, ◌+ℤ◌, int_lt, Bool, true, false, not, if◌then◌else◌, ◌==◌, ◌&&◌, ◌||◌, ◌⊎◌, inl, inr, List, [], ◌∷◌, ◌++◌, append_assoc, length, Option, Some, None, arith, eqb-true, eq-eqb}
-use Rattle.std.proofs.lemmas.Bool.{and_parts, and_from, or_cases, false≢true}
+use Rattle.std.proofs.Common.{◌≡◌, refl, sym, ap, ◌∙◌, subst, ℕ, suc, ◌+◌, pos, Bool, true, false, ◌⊎◌, inl, inr, [], length}
+use Rattle.std.proofs.lemmas.Bool.{false≢true}
 use Rattle.ceu_tree.specs.declared.kernel.Kernel.{Kernel}
-use Rattle.ceu_tree.specs.declared.kernel.KLoop.{KLoop}
-use Rattle.ceu_tree.specs.declared.kernel.KLoop.TheVariants as turns
-use Rattle.ceu_tree.specs.declared.kernel.Loc.{Loc}
-use Rattle.ceu_tree.specs.declared.kernel.ParKind.{ParKind}
-use Rattle.ceu_tree.specs.declared.kernel.ParKind.TheVariants as par
-use Rattle.ceu_tree.specs.declared.kernel.KNode.{KNode}
-use Rattle.ceu_tree.specs.declared.kernel.KBlock.{KBlock, out-KBlock}
-use Rattle.ceu_tree.specs.declared.kernel.KStmt as kernel
-use Rattle.ceu_tree.specs.declared.kernel.KStmt.{KStmt, out-KStmt}
-use Rattle.ceu_tree.specs.declared.kernel.KStmt.TheOpen.{KStmt-F}
-use Rattle.ceu_tree.specs.Residual.{Body, Program, Act, Begin, Start, Finish, AtEnd, AtHead, Again, Counter, Free, Turns, Upward, Residual, Over, Run, Block, Open, Loop, Call, Par, Branches, no_branch, branch, Instances}
-use Rattle.ceu_tree.specs.Legal.{before, is_set, is_finalizer}
-use Rattle.ceu_tree.specs.Mentions.{is_loc, await_target, body_target, sets}
-use Rattle.ceu_tree.specs.Numbering.{counts_from, decl_slots, block_slots, block_nodes, stmt_slots, stmt_nodes}
-use Rattle.ceu_legal.proofs.Static.{BlockOk, names_of}
-use Rattle.ceu_values.specs.Ground.{has, Ground, Numbered, On, numbers_among}
-use Rattle.ceu_values.specs.Needed.{some_done, block_needs, own_variable, turn_needs, needs, each_needs, at_first_head, frame_needs, focus_needs}
-use Rattle.ceu_values.proofs.Counts.{Inner, inner_then}
-use Rattle.ceu_values.proofs.Grounds.{InStatement, inner_ground, InBranches, branch_ground, hidden_counts}
-use Rattle.ceu_values.proofs.Names.{head_target, body_target_is, layer_sets, sets_is, target_sets}
-use Rattle.ceu_values.proofs.Spares.{turns_spared, each_spares}
-use Rattle.ceu_values.proofs.NeedsAt.{no_code, LowAt, FrameGround, frame_ground, head_cell}
-use denote.Hole.Carrier
-use Rattle.ceu_tree.specs.declared.kernel.KCode.{KCode}
-use Rattle.ceu_base.specs.declared.kinds.Pos.{Pos}
-use Rattle.ceu_base.specs.declared.kinds.Fault.{Fault}
-use Rattle.ceu_base.specs.Values.{same}
-use Rattle.ceu_base.specs.declared.kinds.Mark.TheVariants as mark
-use Rattle.std.specs.Prelude.{Result, Ok, Err}
-use Rattle.ceu_tree.specs.declared.kernel.KArm.{KArm, out-KArm}
-use Rattle.ceu_tree.specs.Residual.{Seat, no_instance, instance, WaitInput, WaitTime, WaitEvent, WaitForever, InAsync}
-use Rattle.ceu_tree.specs.Focus.{Frame, OfBlock, OfInstance, OfOpen, OfLoop, OfCall, OfPar, Focus, Here, In, join, fill, plug, graft, leaf, body_in, body_of, has_body}
-use Rattle.ceu_tree.specs.World.{World, marked, Cell, Holds, NotSet, Names, set, assign, assign_if, set_parameters, look}
-use Rattle.ceu_tree.specs.Expressions.{value_of, value_if, values_of, names_living}
-use Rattle.ceu_tree.specs.Wake.{each_leaf, each_in_branches, each_in_instances, each_in_body, woken, by_event}
+use Rattle.ceu_tree.specs.Residual.{Program, Act, Begin, Start, Finish, AtEnd, AtHead, Again, Over, Run}
+use Rattle.ceu_tree.specs.Numbering.{block_slots, block_nodes}
+use Rattle.ceu_values.specs.Ground.{has, Ground, On}
+use Rattle.ceu_values.specs.Needed.{needs, focus_needs}
+use Rattle.ceu_values.proofs.NeedsAt.{no_code, LowAt}
+use Rattle.ceu_tree.specs.Focus.{Focus, Here, In, plug, graft, leaf, body_of}
+use Rattle.ceu_tree.specs.World.{World}
+use Rattle.ceu_tree.specs.Wake.{woken, by_event}
 use Rattle.ceu_tree.specs.Leaf as does
 use Rattle.ceu_tree.specs.Leaf.{Layer, Exit, Does, Opens, Waits, Passes, Kills, Done, or_fails, code_at, target, target_of, chosen_part, branches_from, in_branches, loop_reached, called, spawning, killing, started, next_of, rest_of, acted}
 use Rattle.ceu_tree.specs.Around.{Outcome, Goes, Rests, Raises, Fails, Past, Registers, AtBlockEnd, AtLoopHead, Ends, Leaves, Moved, moved, up, taken, answered}
-use Rattle.ceu_tree.specs.Step.{event_code, emitted, spawned, unseated, unseat_frame, unseat, killed_in, kill_frame, killed, does_in, stepped}
-use Rattle.ceu_tree.specs.Proper.{Scope, is_proper, is_trail}
-use Rattle.ceu_legal.specs.Shape.{Part, ABlock, AStatement, AnEnd, program_part, pauses, AllFit, none_lives, one_lives, FrameFits, around_statement, around_end, around_instance, around_part, around_turn, around_call, around_branch, Around, nothing_around, one_around, ActFits, begins, heads, goes_again, starts, finishes, ends, TurnFits, Comes}
-use Rattle.ceu_legal.proofs.UpFits.{Sound, frame_sound, layer_of, up_fits}
+use Rattle.ceu_tree.specs.Step.{event_code, unseat, does_in, stepped}
+use Rattle.ceu_tree.specs.Proper.{is_proper}
+use Rattle.ceu_legal.specs.Shape.{Part, ABlock, Around, nothing_around, one_around, ActFits, starts, TurnFits, Comes}
+use Rattle.ceu_legal.proofs.UpFits.{Sound, up_fits}
 use Rattle.ceu_legal.proofs.LeafFits.{DoesFit, acted_fits}
 use Rattle.ceu_legal.proofs.StepFits.{Closed, around_sound}
-use Rattle.ceu_values.specs.Ready.{is_cell, declares, act_has, Ready}
-use Rattle.ceu_values.proofs.Stores.{never_true, or_left, or_right, set_keeps, set_has, assign_if_keeps}
-use Rattle.ceu_values.proofs.Positions.{before_at, before_first, Low, Beside}
-use Rattle.ceu_values.proofs.Readies.{ready_list, ready_part, ready_turn, ready_branch}
+use Rattle.ceu_values.specs.Ready.{act_has, Ready}
+use Rattle.ceu_values.proofs.Stores.{never_true}
+use Rattle.ceu_values.proofs.Positions.{Beside}
 use Rattle.ceu_values.proofs.Evaluated.{started_has}
-use Rattle.ceu_values.proofs.UpValues.{is_at_head, SetNow, OutcomeHas, outcome_needs, is_head_outcome, UpFine, awaits, no_await, layer_set, assigned_has, frame_later, each_joined, fill_needs, plain_body}
+use Rattle.ceu_values.proofs.UpValues.{is_at_head, OutcomeHas, outcome_needs, is_head_outcome, plain_body}
 use Rattle.ceu_values.proofs.ThroughValues.{up_fine}
-use Rattle.ceu_tree.specs.Step.{spawned_at}
-use Rattle.ceu_legal.proofs.LeafFits.{Pausing}
 use Rattle.ceu_legal.proofs.StepFits.{unseated_around}
-use Rattle.ceu_values.proofs.Grounds.{program_ground}
-use Rattle.ceu_values.proofs.Readies.{ready_program}
-use Rattle.ceu_values.proofs.StepValues.{not_first, ready_down, ActDone, ActFine, acted_fine, plug_needs, graft_needs, leaf_needs, by_event_needs, woken_flat, unseated_needs, unseated_leaf, killed_same}
+use Rattle.ceu_values.proofs.StepValues.{ready_down, ActDone, acted_fine, plug_needs, graft_needs, leaf_needs, by_event_needs, woken_flat, unseated_needs, unseated_leaf, killed_same}
 
 abbrev is_heads : Does → Bool
 is_heads does.Heads = true
@@ -151,7 +119,7 @@ module _ (K : Kernel) (proper : is_proper K ≡ true) (plain : K.codes ≡ []) w
 
   -- ---- the whole program
 
-  root_ground : Ground
+  abbrev pub root_ground : Ground
   root_ground = record { low = 0; high = length (block_slots K.body); first = 0; last = length (block_nodes K.body) }
 
   act_reads : (e : Part) (a : Act) (w : World) → ActFits e a → Sound K proper e → Ready K Program w e → act_has Program w a ≡ true

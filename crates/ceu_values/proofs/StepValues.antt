@@ -1,58 +1,44 @@
 -- Programs without code: in a step each slot that is read has a value, and each slot that needs a value after it has one.
-use Rattle.std.proofs.Common.{◌≡◌, refl, sym, ap, ◌∙◌, subst, ◌<◌, ◌≤◌, ℕ, zero, suc, ◌+◌, ℤ, pos, ◌+ℤ◌, int_lt, Bool, true, false, not, if◌then◌else◌, ◌==◌, ◌&&◌, ◌||◌, ◌⊎◌, inl, inr, List, [], ◌∷◌, ◌++◌, append_assoc, Option, Some, None, arith, eqb-true, eq-eqb}
+use Rattle.std.proofs.Common.{◌≡◌, refl, sym, ap, ◌∙◌, subst, ℕ, ℤ, Bool, true, false, not, if◌then◌else◌, ◌==◌, ◌&&◌, ◌||◌, ◌⊎◌, inl, inr, List, [], ◌∷◌, Option, Some, None, eqb-true}
 use Rattle.std.proofs.lemmas.Bool.{and_parts, and_from, or_cases, false≢true}
 use Rattle.ceu_tree.specs.declared.kernel.Kernel.{Kernel}
 use Rattle.ceu_tree.specs.declared.kernel.KLoop.{KLoop}
 use Rattle.ceu_tree.specs.declared.kernel.KLoop.TheVariants as turns
-use Rattle.ceu_tree.specs.declared.kernel.Loc.{Loc}
 use Rattle.ceu_tree.specs.declared.kernel.ParKind.{ParKind}
-use Rattle.ceu_tree.specs.declared.kernel.ParKind.TheVariants as par
 use Rattle.ceu_tree.specs.declared.kernel.KNode.{KNode}
 use Rattle.ceu_tree.specs.declared.kernel.KBlock.{KBlock, out-KBlock}
-use Rattle.ceu_tree.specs.declared.kernel.KStmt as kernel
-use Rattle.ceu_tree.specs.declared.kernel.KStmt.{KStmt, out-KStmt}
+use Rattle.ceu_tree.specs.declared.kernel.KStmt.{out-KStmt}
 use Rattle.ceu_tree.specs.declared.kernel.KStmt.TheOpen.{KStmt-F}
-use Rattle.ceu_tree.specs.Residual.{Body, Program, Act, Begin, Start, Finish, AtEnd, AtHead, Again, Counter, Free, Turns, Upward, Residual, Over, Run, Block, Open, Loop, Call, Par, Branches, no_branch, branch, Instances}
-use Rattle.ceu_tree.specs.Legal.{before, is_set, is_finalizer}
-use Rattle.ceu_tree.specs.Mentions.{is_loc, await_target, body_target, sets}
-use Rattle.ceu_tree.specs.Numbering.{counts_from, decl_slots, block_slots, block_nodes, stmt_slots, stmt_nodes}
-use Rattle.ceu_legal.proofs.Static.{BlockOk, names_of}
-use Rattle.ceu_values.specs.Ground.{has, Ground, Numbered, On, numbers_among}
-use Rattle.ceu_values.specs.Needed.{some_done, block_needs, own_variable, turn_needs, needs, each_needs, at_first_head, frame_needs, focus_needs}
-use Rattle.ceu_values.proofs.Counts.{Inner, inner_then}
-use Rattle.ceu_values.proofs.Grounds.{InStatement, inner_ground, InBranches, branch_ground, hidden_counts}
-use Rattle.ceu_values.proofs.Names.{head_target, body_target_is, layer_sets, sets_is, target_sets}
-use Rattle.ceu_values.proofs.Spares.{turns_spared, each_spares}
-use Rattle.ceu_values.proofs.NeedsAt.{no_code, LowAt, FrameGround, frame_ground, head_cell}
-use denote.Hole.Carrier
-use Rattle.ceu_tree.specs.declared.kernel.KCode.{KCode}
+use Rattle.ceu_tree.specs.Residual.{Program, Act, Begin, Start, Finish, AtEnd, AtHead, Again, Residual, Over, Run, Block, Open, Loop, Call, Par, Branches, no_branch, branch, Instances}
+use Rattle.ceu_tree.specs.Legal.{before, is_set}
+use Rattle.ceu_tree.specs.Mentions.{is_loc, body_target}
+use Rattle.ceu_legal.proofs.Static.{names_of}
+use Rattle.ceu_values.specs.Ground.{has}
+use Rattle.ceu_values.specs.Needed.{some_done, block_needs, turn_needs, needs, each_needs, at_first_head, frame_needs, focus_needs}
+use Rattle.ceu_values.proofs.Names.{layer_sets}
+use Rattle.ceu_values.proofs.NeedsAt.{no_code}
 use Rattle.ceu_base.specs.declared.kinds.Pos.{Pos}
 use Rattle.ceu_base.specs.declared.kinds.Fault.{Fault}
-use Rattle.ceu_base.specs.Values.{same}
 use Rattle.ceu_base.specs.declared.kinds.Mark.TheVariants as mark
 use Rattle.std.specs.Prelude.{Result, Ok, Err}
-use Rattle.ceu_tree.specs.declared.kernel.KArm.{KArm, out-KArm}
-use Rattle.ceu_tree.specs.Residual.{Seat, no_instance, instance, WaitInput, WaitTime, WaitEvent, WaitForever, InAsync}
-use Rattle.ceu_tree.specs.Focus.{Frame, OfBlock, OfInstance, OfOpen, OfLoop, OfCall, OfPar, Focus, Here, In, join, fill, plug, graft, leaf, body_in, body_of, has_body}
-use Rattle.ceu_tree.specs.World.{World, marked, Cell, Holds, NotSet, Names, set, assign, assign_if, set_parameters, look}
-use Rattle.ceu_tree.specs.Expressions.{value_of, value_if, values_of, names_living}
-use Rattle.ceu_tree.specs.Wake.{each_leaf, each_in_branches, each_in_instances, each_in_body, woken, by_event}
+use Rattle.ceu_tree.specs.declared.kernel.KArm.{KArm}
+use Rattle.ceu_tree.specs.Residual.{WaitInput, WaitTime, WaitEvent, WaitForever, InAsync}
+use Rattle.ceu_tree.specs.Focus.{Frame, OfBlock, OfInstance, OfOpen, OfLoop, OfCall, OfPar, Focus, Here, In, fill, plug, graft, leaf, has_body}
+use Rattle.ceu_tree.specs.World.{World, marked, Cell, NotSet, Names, set, assign_if, look}
+use Rattle.ceu_tree.specs.Expressions.{value_of, value_if, names_living}
+use Rattle.ceu_tree.specs.Wake.{each_leaf, each_in_branches, each_in_body, woken, by_event}
 use Rattle.ceu_tree.specs.Leaf as does
 use Rattle.ceu_tree.specs.Leaf.{Layer, Exit, Does, Opens, Waits, Passes, Kills, Done, or_fails, code_at, target, target_of, chosen_part, branches_from, in_branches, loop_reached, called, spawning, killing, started, next_of, rest_of, acted}
-use Rattle.ceu_tree.specs.Around.{Outcome, Goes, Rests, Raises, Fails, Past, Registers, AtBlockEnd, AtLoopHead, Ends, Leaves, Moved, moved, up, taken, answered}
-use Rattle.ceu_tree.specs.Step.{event_code, emitted, spawned, unseated, unseat_frame, unseat, killed_in, kill_frame, killed, does_in, stepped}
-use Rattle.ceu_tree.specs.Proper.{Scope, is_proper, is_trail}
-use Rattle.ceu_legal.specs.Shape.{Part, ABlock, AStatement, AnEnd, program_part, pauses, AllFit, none_lives, one_lives, FrameFits, around_statement, around_end, around_instance, around_part, around_turn, around_call, around_branch, Around, nothing_around, one_around, ActFits, begins, heads, goes_again, starts, finishes, ends, TurnFits, Comes}
-use Rattle.ceu_legal.proofs.UpFits.{Sound, frame_sound, layer_of, up_fits}
-use Rattle.ceu_legal.proofs.LeafFits.{DoesFit, acted_fits}
-use Rattle.ceu_legal.proofs.StepFits.{Closed, around_sound}
-use Rattle.ceu_values.specs.Ready.{is_cell, declares, act_has, Ready}
-use Rattle.ceu_values.proofs.Stores.{never_true, or_left, or_right, set_keeps, set_has, assign_if_keeps}
-use Rattle.ceu_values.proofs.Positions.{before_at, before_first, Low, Beside}
+use Rattle.ceu_tree.specs.Around.{Past, Leaves}
+use Rattle.ceu_tree.specs.Step.{unseat_frame, unseat, killed_in, killed}
+use Rattle.ceu_tree.specs.Proper.{Scope, is_proper}
+use Rattle.ceu_legal.specs.Shape.{Part, AStatement, pauses, AllFit, none_lives, one_lives, FrameFits, around_statement, around_end, around_instance, around_part, around_turn, around_call, around_branch, Around, nothing_around, one_around, ActFits, begins, heads, goes_again, starts, finishes, ends}
+use Rattle.ceu_legal.proofs.UpFits.{Sound, frame_sound, layer_of}
+use Rattle.ceu_values.specs.Ready.{declares, Ready}
+use Rattle.ceu_values.proofs.Stores.{or_left, or_right, set_keeps, set_has, assign_if_keeps}
+use Rattle.ceu_values.proofs.Positions.{before_at, before_first}
 use Rattle.ceu_values.proofs.Readies.{ready_list, ready_part, ready_turn, ready_branch}
-use Rattle.ceu_values.proofs.Evaluated.{started_has}
-use Rattle.ceu_values.proofs.UpValues.{is_at_head, SetNow, OutcomeHas, outcome_needs, is_head_outcome, UpFine, awaits, no_await, layer_set, assigned_has, frame_later, each_joined, fill_needs, plain_body}
-use Rattle.ceu_values.proofs.ThroughValues.{up_fine}
+use Rattle.ceu_values.proofs.UpValues.{is_at_head, SetNow, OutcomeHas, awaits, no_await, layer_set, assigned_has, frame_later, fill_needs}
 
 pub not_first : (f : Focus Act) → is_at_head (leaf f) ≡ false → at_first_head f ≡ false
 not_first (Here AtHead) h = h

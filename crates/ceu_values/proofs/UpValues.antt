@@ -1,41 +1,32 @@
 -- Programs without code: what the parts around a leaf do leaves a value to each slot that needs one.
-use Rattle.std.proofs.Common.{◌≡◌, refl, sym, ap, ◌∙◌, subst, ◌<◌, ◌≤◌, ℕ, zero, suc, ◌+◌, ℤ, pos, ◌+ℤ◌, int_lt, Bool, true, false, not, if◌then◌else◌, ◌==◌, ◌&&◌, ◌||◌, ◌⊎◌, inl, inr, List, [], ◌∷◌, ◌++◌, append_assoc, Option, Some, None, arith, eqb-true, eq-eqb}
+use Rattle.std.proofs.Common.{◌≡◌, refl, sym, ap, ◌∙◌, subst, ℕ, ℤ, Bool, true, false, not, if◌then◌else◌, ◌&&◌, ◌||◌, ◌⊎◌, inl, inr, List, [], ◌∷◌, ◌++◌, append_assoc, Option, Some, None, eqb-true}
 use Rattle.std.proofs.lemmas.Bool.{and_parts, and_from, or_cases, false≢true}
 use Rattle.ceu_tree.specs.declared.kernel.Kernel.{Kernel}
-use Rattle.ceu_tree.specs.declared.kernel.KLoop.{KLoop}
-use Rattle.ceu_tree.specs.declared.kernel.KLoop.TheVariants as turns
 use Rattle.ceu_tree.specs.declared.kernel.Loc.{Loc}
-use Rattle.ceu_tree.specs.declared.kernel.ParKind.{ParKind}
-use Rattle.ceu_tree.specs.declared.kernel.ParKind.TheVariants as par
 use Rattle.ceu_tree.specs.declared.kernel.KNode.{KNode}
 use Rattle.ceu_tree.specs.declared.kernel.KBlock.{KBlock, out-KBlock}
 use Rattle.ceu_tree.specs.declared.kernel.KStmt as kernel
 use Rattle.ceu_tree.specs.declared.kernel.KStmt.{KStmt, out-KStmt}
 use Rattle.ceu_tree.specs.declared.kernel.KStmt.TheOpen.{KStmt-F}
-use Rattle.ceu_tree.specs.Residual.{Body, Program, Act, Begin, Start, Finish, AtEnd, AtHead, Again, Counter, Free, Turns, Upward, Residual, Over, Run, Block, Open, Loop, Call, Par, Branches, no_branch, branch, Instances}
-use Rattle.ceu_tree.specs.Focus.{Frame, OfBlock, OfInstance, OfOpen, OfLoop, OfCall, OfPar, Focus, Here, In, join, fill, plug, body_in}
+use Rattle.ceu_tree.specs.Residual.{Program, Act, AtHead, Residual, Branches, no_branch, branch, Instances}
+use Rattle.ceu_tree.specs.Focus.{Frame, OfBlock, OfInstance, OfOpen, OfLoop, OfCall, OfPar, Here, In, join, fill, body_in}
 use Rattle.ceu_tree.specs.World.{World, Holds, set, assign_if}
-use Rattle.ceu_tree.specs.Abort.{aborted, branches_aborted, closed, forget_loop}
-use Rattle.ceu_tree.specs.Leaf.{Layer, Exit, Escape, Break, Continue, target, target_of, next_of, rest_of}
-use Rattle.ceu_tree.specs.Around.{Outcome, Goes, Rests, Raises, Fails, Past, Registers, AtBlockEnd, AtLoopHead, Ends, Leaves, Moved, moved, value_with, goes_on, body_left, open_left, again, begins_turn, turn_of, next_turn, loop_exit, loop_left, all_over, kind_of, rejoined, through, up}
+use Rattle.ceu_tree.specs.Leaf.{Layer, next_of, rest_of}
+use Rattle.ceu_tree.specs.Around.{Outcome, Goes, Rests, Raises, Past, AtLoopHead, Leaves, Moved}
 use Rattle.ceu_tree.specs.Legal.{before, is_set, is_finalizer}
 use Rattle.ceu_tree.specs.Mentions.{is_loc, await_target, body_target, sets}
-use Rattle.ceu_tree.specs.Numbering.{counts_from, decl_slots, block_slots, block_nodes, stmt_slots, stmt_nodes}
+use Rattle.ceu_tree.specs.Numbering.{block_slots, block_nodes}
 use Rattle.ceu_tree.specs.Proper.{Scope, find, pool_slots, pools_seen, is_proper}
-use Rattle.ceu_legal.specs.Shape.{Part, ABlock, AStatement, AnEnd, block_scope, part_scope, turn_scope, opens_part, AllFit, EachFits, FrameFits, around_statement, around_end, around_instance, around_part, around_turn, around_call, around_branch, Around, nothing_around, one_around, Comes}
+use Rattle.ceu_legal.specs.Shape.{Part, ABlock, AStatement, block_scope, opens_part, FrameFits, around_statement, around_end, around_instance, around_part, around_turn, around_call, around_branch}
 use Rattle.ceu_legal.proofs.Static.{BlockOk, names_of}
-use Rattle.ceu_legal.proofs.UpFits.{Sound, frame_sound, up_fits}
-use Rattle.ceu_values.specs.Ground.{has, Ground, Numbered, On, numbers_among}
+use Rattle.ceu_values.specs.Ground.{has, Ground, Numbered}
 use Rattle.ceu_values.specs.Ready.{is_cell, declares}
-use Rattle.ceu_values.specs.Needed.{some_done, block_needs, own_variable, turn_needs, needs, each_needs, at_first_head, frame_needs, focus_needs}
-use Rattle.ceu_values.proofs.Counts.{Inner, inner_then}
-use Rattle.ceu_values.proofs.Grounds.{InStatement, inner_ground, InBranches, branch_ground, hidden_counts}
-use Rattle.ceu_values.proofs.Stores.{or_left, or_right, set_keeps, set_has, assign_if_keeps}
+use Rattle.ceu_values.specs.Needed.{some_done, block_needs, turn_needs, needs, each_needs, frame_needs, focus_needs}
+use Rattle.ceu_values.proofs.Stores.{or_left, or_right, set_has}
 use Rattle.ceu_values.proofs.Names.{head_target, body_target_is, layer_sets, sets_is, target_sets}
-use Rattle.ceu_values.proofs.Spares.{turns_spared, each_spares}
-use Rattle.ceu_values.proofs.Positions.{before_at, set_more, declared_cell, Low, Beside, beside_outside, beside_inner}
-use Rattle.ceu_values.proofs.NeedsAt.{no_code, LowAt, FrameGround, frame_ground, head_cell}
-use Rattle.ceu_values.proofs.FocusSpares.{branches_joined, decls_ground, closed_spares, focus_spares}
+use Rattle.ceu_values.proofs.Positions.{before_at, set_more, declared_cell, Low, Beside}
+use Rattle.ceu_values.proofs.NeedsAt.{no_code, head_cell}
+use Rattle.ceu_values.proofs.FocusSpares.{decls_ground}
 use denote.Hole.Carrier
 
 -- what a statement that is gone past has set

@@ -1,7 +1,5 @@
 -- What belongs to a part: the slots and nodes that its kernel's part has, the bodies of code that it awaits, and its instances.
-use Rattle.std.specs.Prelude.{◌≡◌, ◌<◌, ◌≤◌, ◌⊎◌, ℕ, suc, ◌+◌, Bool, true, false, ◌==◌, ◌&&◌, ◌||◌, List, [], ◌∷◌, ◌++◌, length, Option, Some, None, is_some}
-use Rattle.ceu_tree.specs.declared.kernel.Kernel.{Kernel}
-use Rattle.ceu_tree.specs.declared.kernel.KBlock.{KBlock, out-KBlock}
+use Rattle.std.specs.Prelude.{◌≡◌, ◌<◌, ◌≤◌, ◌⊎◌, ℕ, ◌+◌, Bool, true, false, ◌==◌, ◌&&◌, ◌||◌, List, [], ◌∷◌, ◌++◌, length, is_some}
 use Rattle.ceu_tree.specs.Residual.{Body, Program, Awaited, Spawned, same_body, Residual, InAsync, Block, Open, Loop, Call, Par, Branches, no_branch, branch, Instances, no_instance, instance}
 use Rattle.ceu_tree.specs.World.{World, look, is_among}
 use Rattle.ceu_tree.specs.Numbering.{counts_from, stmt_nodes, block_nodes, stmt_slots, block_slots}

@@ -2,8 +2,7 @@
 --
 -- A block needs those of its declarations that the statements before the one where it stands set, and the target of an await at its head once that is
 -- behind it; a loop over a range needs its variable in its turns.
-use Rattle.std.specs.Prelude.{◌≡◌, ◌<◌, ℕ, Bool, true, false, not, ◌==◌, ◌&&◌, ◌||◌, List, [], ◌∷◌, Option, Some, None}
-use Rattle.ceu_tree.specs.declared.kernel.Kernel.{Kernel}
+use Rattle.std.specs.Prelude.{◌≡◌, ℕ, Bool, true, false, not, ◌==◌, ◌&&◌, ◌||◌, List, [], ◌∷◌}
 use Rattle.ceu_tree.specs.declared.kernel.KLoop.{KLoop}
 use Rattle.ceu_tree.specs.declared.kernel.KLoop.TheVariants as turns
 use Rattle.ceu_tree.specs.declared.kernel.KNode.{KNode}
@@ -11,8 +10,7 @@ use Rattle.ceu_tree.specs.declared.kernel.KBlock.{KBlock, out-KBlock}
 use Rattle.ceu_tree.specs.declared.kernel.KStmt.{out-KStmt}
 use Rattle.ceu_tree.specs.declared.kernel.KStmt.TheOpen.{KStmt-F}
 use Rattle.ceu_tree.specs.Residual.{Program, Act, AtHead, Residual, InAsync, Block, Open, Loop, Call, Par, Branches, no_branch, branch}
-use Rattle.ceu_tree.specs.Focus.{Frame, OfBlock, OfInstance, OfOpen, OfLoop, OfCall, OfPar, Focus, Here, In}
-use Rattle.ceu_tree.specs.World.{World}
+use Rattle.ceu_tree.specs.Focus.{Frame, OfBlock, OfLoop, OfPar, Focus, Here, In}
 use Rattle.ceu_tree.specs.Leaf.{Layer}
 use Rattle.ceu_tree.specs.Legal.{before, is_set}
 use Rattle.ceu_tree.specs.Mentions.{is_loc, body_target}

@@ -1,6 +1,5 @@
 -- Which slots a part may name: each variable and alias that is seen from its place has a value, or the part does not name it before it sets it.
-use Rattle.std.specs.Prelude.{◌≡◌, ◌⊎◌, ℕ, Bool, true, false, not, ◌==◌, ◌&&◌, ◌||◌, if◌then◌else◌, List, [], ◌∷◌, Option, Some, None}
-use Rattle.std.specs.List.{list_all}
+use Rattle.std.specs.Prelude.{◌≡◌, ◌⊎◌, ℕ, Bool, true, false, ◌==◌, ◌&&◌, ◌||◌, List, [], ◌∷◌, Option, Some, None}
 use Rattle.ceu_tree.specs.declared.kernel.Kernel.{Kernel}
 use Rattle.ceu_tree.specs.declared.kernel.KDecl.{KDecl}
 use Rattle.ceu_tree.specs.declared.kernel.KLoop.{KLoop}
@@ -10,14 +9,14 @@ use Rattle.ceu_tree.specs.declared.kernel.KExpNode as exp
 use Rattle.ceu_tree.specs.declared.kernel.KExpNode.{KExpNode, Row_of-KExp, end_of-KExp, more_of-KExp, One', Two', As'}
 use Rattle.ceu_tree.specs.declared.kernel.KNode.{KNode}
 use Rattle.ceu_tree.specs.declared.kernel.KArm.{KArm, out-KArm}
-use Rattle.ceu_tree.specs.declared.kernel.KBlock.{KBlock, out-KBlock}
-use Rattle.ceu_tree.specs.declared.kernel.KStmt.{KStmt, out-KStmt}
+use Rattle.ceu_tree.specs.declared.kernel.KBlock.{KBlock}
+use Rattle.ceu_tree.specs.declared.kernel.KStmt.{out-KStmt}
 use Rattle.ceu_tree.specs.declared.kernel.KStmt.TheOpen.{KStmt-F}
 use Rattle.ceu_tree.specs.Residual.{Body, Act, Start}
 use Rattle.ceu_tree.specs.World.{World}
 use Rattle.ceu_tree.specs.Leaf.{Layer}
 use Rattle.ceu_tree.specs.Mentions.{count_of, stmt_names, block_names, sets, is_loc, body_target, is_set_decl, outer_names_from}
-use Rattle.ceu_tree.specs.Proper.{Scope, Seen, SlotKind, IsVariable, IsLoopVariable, IsPool, IsAlias, find}
+use Rattle.ceu_tree.specs.Proper.{SlotKind, IsVariable, IsLoopVariable, IsPool, IsAlias, find}
 use Rattle.ceu_legal.specs.Shape.{Part, ABlock, AStatement, AnEnd}
 use Rattle.ceu_values.specs.Ground.{has}
 
