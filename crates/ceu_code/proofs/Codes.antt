@@ -281,7 +281,7 @@ operand_long Open w f = number_long 1 0 2 w f
 operand_long Half w f = number_long 2 0 65535 w f
 operand_long FourBytes w f = number_long 4 0 4294967295 w f
 
-operands_long : (kinds : List Operand) (w : List ℕ) → IsOperands kinds w → length w ≡ operands_width kinds
+pub operands_long : (kinds : List Operand) (w : List ℕ) → IsOperands kinds w → length w ≡ operands_width kinds
 operands_long [] w f = ap length f
 operands_long (kind ∷ kinds) w (a, b, f, g, e) =
     ap length e ∙ length-append a b ∙ (let p = operand_long kind a f in let q = operands_long kinds b g in omega arith)
