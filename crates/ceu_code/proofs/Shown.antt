@@ -1,14 +1,13 @@
 -- Lines of text: names, numbers, and the room that they take.
-use Rattle.std.proofs.Common.{◌≡◌, ℕ, zero, suc, ◌+◌, ◌-◌, ◌*◌, ◌^◌, ◌≤◌, ◌<◌, Bool, true, false, ◌&&◌, List, [], ◌∷◌, ◌++◌, length, take, drop, get_or, Option, Some, None, refl, sym, ap, ◌∙◌, subst, arith, lit≤, drop-cons, add-one, length-append, length-drop}
+use Rattle.std.proofs.Common.{◌≡◌, ℕ, zero, suc, ◌+◌, ◌-◌, ◌*◌, ◌^◌, ◌≤◌, ◌<◌, List, [], ◌∷◌, ◌++◌, length, drop, get_or, Option, Some, None, sym, ap, ◌∙◌, subst, arith, lit≤, length-append, length-drop}
 use Rattle.std.specs.Prelude.{slice_get, unwrap_or, option_and_then}
 use Rattle.std.specs.List.{AllByRecursion}
 use Rattle.std.proofs.Math.Nat.{pow-succ', pow-le-pow_right}
 use Rattle.std.proofs.lemmas.Option.{slice_get_past}
 use Rattle.ceu_code.specs.declared.table.Row.{Row}
-use Rattle.ceu_code.specs.declared.table.Operand.{Operand}
-use Rattle.ceu_code.specs.Table.{operands, operands_width, row_of, table, IsInstruction, IsOperands}
-use Rattle.ceu_code.specs.Text.{name_at, number_at, operands_room, operands_of, StartsInstruction, instruction_size}
-use Rattle.ceu_code.proofs.Reading.{same_head, same_tail}
+use Rattle.ceu_code.specs.Table.{operands, operands_width, row_of, table}
+use Rattle.ceu_code.specs.Text.{name_at, number_at, operands_room, StartsInstruction}
+use Rattle.ceu_code.proofs.Reading.{same_head}
 use Rattle.ceu_code.proofs.Numbers.{cut_at}
 use Rattle.ceu_code.proofs.Codes.{operands_long}
 

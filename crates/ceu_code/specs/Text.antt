@@ -1,5 +1,5 @@
 -- An instruction as a line of text: its offset, its name, and its operands, with a blank before each.
-use Rattle.std.specs.Prelude.{◌≡◌, ℕ, zero, suc, ◌+◌, ◌-◌, ◌*◌, ◌^◌, ◌≤◌, ℤ, pos, ◌-ℤ◌, Bool, ◌&&◌, nat_le, ◌==◌, List, [], ◌∷◌, ◌++◌, length, drop, slice_get, slice_index, unwrap_or, codes, decimal, if◌then◌else◌, Option, Some, None}
+use Rattle.std.specs.Prelude.{◌≡◌, ℕ, zero, suc, ◌+◌, ◌*◌, ◌^◌, ℤ, pos, ◌-ℤ◌, ◌&&◌, nat_le, ◌==◌, List, [], ◌∷◌, ◌++◌, drop, slice_get, slice_index, unwrap_or, codes, decimal, if◌then◌else◌, Option, Some, None}
 use Rattle.std.specs.Fmt.{signed_decimal}
 use Rattle.ceu_base.specs.Values.{is_signed}
 use Rattle.ceu_base.specs.declared.kinds.Ty.{Ty}

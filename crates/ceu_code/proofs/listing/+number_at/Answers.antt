@@ -1,4 +1,4 @@
-use Rattle.std.proofs.Common.{◌≡◌, ◌<◌, ◌≤◌, ◌+◌, ◌-◌, ◌*◌, ◌^◌, ℕ, suc, get_or, ap, ◌∙◌, arith}
+use Rattle.std.proofs.Common.{◌≡◌, ◌+◌, ◌-◌, ◌*◌, ℕ, suc, get_or, ap, ◌∙◌, arith}
 use Rattle.ceu_code.proofs.Shown.{number_none, number_more, small_more, fits_width}
 use Rattle.ceu_code.proofs.listing.+number_at.Goals as goal
 

@@ -1,4 +1,4 @@
-use Rattle.std.proofs.Common.{◌≡◌, ◌+◌, ◌≤◌, List, ℕ, Option, Some, sym, ap, ◌∙◌, get_or, length, arith}
+use Rattle.std.proofs.Common.{◌≡◌, ◌≤◌, List, ℕ, Some, sym, ap, ◌∙◌, get_or, length, arith}
 use Rattle.ceu_code.specs.declared.table.Row.{Row}
 use Rattle.ceu_code.specs.Table.{row_of, operands, operands_width}
 use Rattle.ceu_code.specs.Text.{operands_room}
