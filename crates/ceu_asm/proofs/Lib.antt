@@ -1,3 +1,4 @@
 pub mod Numbering
 pub mod Filling
 pub mod Following
+pub mod Tabled
