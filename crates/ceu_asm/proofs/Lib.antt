@@ -2,3 +2,4 @@ pub mod Numbering
 pub mod Filling
 pub mod Following
 pub mod Tabled
+pub mod Cells

@@ -1,5 +1,5 @@
 -- Instructions in range are spelled as the table asks.
-use Rattle.std.proofs.Common.{◌≡◌, ◌≢◌, ℕ, ◌+◌, ◌%◌, ◌^◌, ◌≤◌, ◌<◌, List, [], ◌∷◌, ◌++◌, refl, sym, ap, ◌∙◌, subst, arith, lit≤, Some}
+use Rattle.std.proofs.Common.{◌≡◌, ◌≢◌, ℕ, ◌%◌, ◌^◌, ◌≤◌, ◌<◌, List, [], ◌∷◌, ◌++◌, refl, sym, ap, ◌∙◌, subst, arith, lit≤, Some}
 use Rattle.std.specs.List.{AllByRecursion, flat_map}
 use Rattle.std.proofs.lemmas.List.Concat.{flat_map-cons}
 use Rattle.ceu_base.specs.declared.kinds.Op1.{Op1}
@@ -12,12 +12,11 @@ use Rattle.ceu_code.specs.declared.instr.Instr.{Instr}
 use Rattle.ceu_code.specs.declared.instr.Instr.TheVariants as instr
 use Rattle.ceu_code.specs.declared.table.Operand.{Operand}
 use Rattle.ceu_code.specs.declared.table.Operand.TheVariants.{Nothing, Typed, AnyType, Prefix, Binary, Unit as Units, Open, Half, Word, Constant}
-use Rattle.ceu_code.specs.declared.table.Row.{Row}
-use Rattle.ceu_code.specs.Table.{low_first, type_byte, type_at, IsNumber, IsConstant, IsOperand, IsOperands, InEither, small_cells, negative_cells, row_of, table, IsInstruction, IsCode}
-use Rattle.ceu_code.specs.Instructions.{cell, spelled, size, binary_byte, prefix_byte, unit_byte}
+use Rattle.ceu_code.specs.Table.{low_first, type_byte, type_at, IsNumber, IsOperand, IsOperands, InEither, small_cells, negative_cells, row_of, table, IsInstruction}
+use Rattle.ceu_code.specs.Instructions.{cell, spelled, binary_byte, prefix_byte, unit_byte}
 use Rattle.ceu_code.specs.Spelling.{half, word}
-use Rattle.ceu_asm.specs.declared.line.Line.{Line}
-use Rattle.ceu_asm.specs.Lines.{instructions, assembled}
+use Rattle.ceu_asm.specs.Lines.{instructions}
+use Rattle.ceu_asm.proofs.Cells.{value_cells}
 use Rattle.ceu_asm.specs.Whole.{IsInRange, AreOfTheTable, BecomeWholeCode}
 
 -- ---- operands
@@ -85,12 +84,12 @@ is_word n p = record { number = n; above = omega arith; below = omega arith; spe
 
 is_constant : (t : Ty) (n : ℕ) → t ≢ ty.None → InEither (small_cells t) (negative_cells t) n → IsOperand Constant (type_byte t ∷ low_first 8 n)
 is_constant t n p v = record {
-    type_number = type_byte t;
-    cell = n;
-    typed = (typed_from t p, type_to t);
-    value = subst (λ (u : Ty). InEither (small_cells u) (negative_cells u) n) (sym (type_back t)) v;
-    spelled = refl
-  }
+  type_number = type_byte t;
+  cell = n;
+  typed = (typed_from t p, type_to t);
+  value = subst (λ (u : Ty). InEither (small_cells u) (negative_cells u) n) (sym (type_back t)) v;
+  spelled = refl;
+}
 
 is_nothing : IsOperand Nothing []
 unfolding low_first
@@ -117,7 +116,7 @@ nothing5 : IsOperands (Nothing ∷ Nothing ∷ Nothing ∷ Nothing ∷ Nothing �
 nothing5 = ([], [], is_nothing, ([], [], is_nothing, ([], [], is_nothing, ([], [], is_nothing, ([], [], is_nothing, refl, refl), refl), refl), refl), refl)
 
 with0 : (op : ℕ) → row_of op ≡ Some (record { first = Nothing; second = Nothing; third = Nothing; fourth = Nothing; fifth = Nothing }) → IsInstruction (op ∷ ([]))
-with0 op   known  = record { opcode = op; row = record { first = Nothing; second = Nothing; third = Nothing; fourth = Nothing; fifth = Nothing }; behind = []; known = known; whole = nothing5; spelled = refl }
+with0 op known = record { opcode = op; row = record { first = Nothing; second = Nothing; third = Nothing; fourth = Nothing; fifth = Nothing }; behind = []; known = known; whole = nothing5; spelled = refl }
 
 with1 : (op : ℕ) (k0 : Operand) (w0 : List ℕ) → row_of op ≡ Some (record { first = k0; second = Nothing; third = Nothing; fourth = Nothing; fifth = Nothing }) → IsOperand k0 w0 → IsInstruction (op ∷ (w0 ++ []))
 with1 op k0 w0 known f0 = record { opcode = op; row = record { first = k0; second = Nothing; third = Nothing; fourth = Nothing; fifth = Nothing }; behind = w0 ++ []; known = known; whole = (w0, [], f0, nothing4, refl); spelled = refl }
@@ -136,7 +135,7 @@ with5 op k0 k1 k2 k3 k4 w0 w1 w2 w3 w4 known f0 f1 f2 f3 f4 = record { opcode = 
 
 pub of_the_table : AreOfTheTable
 unfolding low_first row_of table
-of_the_table (instr.Push t v) h = with1 1 Constant (type_byte t ∷ low_first 8 (cell v)) refl (is_constant t (cell v) h.0 h.1)
+of_the_table (instr.Push t v) h = with1 1 Constant (type_byte t ∷ low_first 8 (cell v)) refl (is_constant t (cell v) h.0 (value_cells t v h.0 h.1))
 of_the_table (instr.Load t a) h = with2 2 Typed Half (type_byte t ∷ []) (half a) refl (is_typed t h.0) (is_half a h.1)
 of_the_table (instr.LoadOuter t a) h = with2 3 Typed Half (type_byte t ∷ []) (half a) refl (is_typed t h.0) (is_half a h.1)
 of_the_table (instr.Store t a) h = with2 4 Typed Half (type_byte t ∷ []) (half a) refl (is_typed t h.0) (is_half a h.1)
@@ -147,25 +146,25 @@ of_the_table (instr.Convert t u) h = with2 8 Typed Typed (type_byte t ∷ []) (t
 of_the_table (instr.Jump c) h = with1 9 Half (half c) refl (is_half c h)
 of_the_table (instr.JumpIfFalse c) h = with1 10 Half (half c) refl (is_half c h)
 of_the_table (instr.Value t) h = with1 11 Typed (type_byte t ∷ []) refl (is_typed t h)
-of_the_table instr.SetValue h = with0 12  refl 
+of_the_table instr.SetValue h = with0 12 refl
 of_the_table (instr.Output k t) h = with2 13 Half AnyType (half k) (type_byte t ∷ []) refl (is_half k h) (is_type t)
-of_the_table instr.End h = with0 14  refl 
+of_the_table instr.End h = with0 14 refl
 of_the_table (instr.WaitInput k) h = with1 16 Half (half k) refl (is_half k h)
 of_the_table (instr.WaitTime u) h = with1 17 Units (unit_byte u ∷ []) refl (is_small (unit_byte u) 4 (unit_to u) (lit≤ tt))
 of_the_table (instr.WaitEvent k) h = with1 18 Half (half k) refl (is_half k h)
-of_the_table instr.WaitForever h = with0 19  refl 
-of_the_table instr.StartAsync h = with0 20  refl 
-of_the_table instr.YieldAsync h = with0 21  refl 
-of_the_table instr.EndAsync h = with0 22  refl 
+of_the_table instr.WaitForever h = with0 19 refl
+of_the_table instr.StartAsync h = with0 20 refl
+of_the_table instr.YieldAsync h = with0 21 refl
+of_the_table instr.EndAsync h = with0 22 refl
 of_the_table (instr.Emit k t) h = with2 23 Half AnyType (half k) (type_byte t ∷ []) refl (is_half k h) (is_type t)
 of_the_table (instr.Fork g c) h = with2 24 Half Half (half g) (half c) refl (is_half g h.0) (is_half c h.1)
 of_the_table (instr.Move g) h = with1 25 Half (half g) refl (is_half g h)
-of_the_table instr.Halt h = with0 26  refl 
+of_the_table instr.Halt h = with0 26 refl
 of_the_table (instr.AbortGates g n) h = with2 27 Half Half (half g) (half n) refl (is_half g h.0) (is_half n h.1)
 of_the_table (instr.Register g c p) h = with3 28 Half Half Half (half g) (half c) (half p) refl (is_half g h.0) (is_half c h.1) (is_half p h.2)
-of_the_table instr.EndFinalizer h = with0 29  refl 
+of_the_table instr.EndFinalizer h = with0 29 refl
 of_the_table (instr.Call k a g) h = with3 30 Half Half Half (half k) (half a) (half g) refl (is_half k h.0) (is_half a h.1) (is_half g h.2)
-of_the_table instr.Return h = with0 31  refl 
+of_the_table instr.Return h = with0 31 refl
 of_the_table (instr.MakePool a n k g) h = with4 32 Half Half Half Half (half a) (half n) (half k) (half g) refl (is_half a h.0) (is_half n h.1) (is_half k h.2) (is_half g h.3)
 of_the_table (instr.Spawn k a n b p) h = with5 33 Half Half Half Half Half (half k) (half a) (half n) (half b) (half p) refl (is_half k h.0) (is_half a h.1) (is_half n h.2) (is_half b h.3) (is_half p h.4)
 of_the_table (instr.Kill a) h = with1 34 Half (half a) refl (is_half a h)

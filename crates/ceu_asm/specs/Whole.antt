@@ -1,20 +1,21 @@
 -- Which instructions have operands in range, so that their bytes are whole instructions of the table.
-use Rattle.std.specs.Prelude.{◌≡◌, ◌≢◌, ℕ, ◌^◌, ◌<◌, ◌≤◌, List}
+use Rattle.std.specs.Prelude.{◌≢◌, ℕ, ◌^◌, ◌<◌, ◌≤◌, List}
 use Rattle.std.specs.List.{AllByRecursion}
+use Rattle.ceu_base.specs.Values.{IsValue}
 use Rattle.ceu_base.specs.declared.kinds.Ty.TheVariants as ty
 use Rattle.ceu_code.specs.declared.instr.Instr.{Instr}
 use Rattle.ceu_code.specs.declared.instr.Instr.TheVariants as instr
-use Rattle.ceu_code.specs.Table.{InEither, small_cells, negative_cells, IsInstruction, IsCode}
-use Rattle.ceu_code.specs.Instructions.{cell, spelled, binary_byte}
+use Rattle.ceu_code.specs.Table.{IsInstruction, IsCode}
+use Rattle.ceu_code.specs.Instructions.{spelled, binary_byte}
 use Rattle.ceu_asm.specs.declared.line.Line.{Line}
 use Rattle.ceu_asm.specs.Lines.{instructions, assembled}
 
 abbrev Half : ℕ → Type 0
 Half n = n < 2 ^ 16
 
--- types other than none, but for outputs and emissions; `and` and `or` are no operators; a pushed value is a cell of its type
+-- types other than none, but for outputs and emissions; `and` and `or` are no operators; a pushed value is one of its type
 abbrev pub IsInRange : Instr → Type 0
-IsInRange (instr.Push t v) = (t ≢ ty.None) × InEither (small_cells t) (negative_cells t) (cell v)
+IsInRange (instr.Push t v) = (t ≢ ty.None) × IsValue t v
 IsInRange (instr.Load t a) = (t ≢ ty.None) × Half a
 IsInRange (instr.LoadOuter t a) = (t ≢ ty.None) × Half a
 IsInRange (instr.Store t a) = (t ≢ ty.None) × Half a

@@ -11,5 +11,4 @@ pub fn instructions_follow_their_label()
 pub fn instructions_are_of_the_table()
     ensures instructions { AreOfTheTable }
     ensures lines { BecomeWholeCode }
-{
-}
+{}
