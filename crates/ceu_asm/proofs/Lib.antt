@@ -1,3 +1,5 @@
 pub mod Numbering
 pub mod Filling
 pub mod Following
+pub mod Tabled
+pub mod Cells

@@ -3,3 +3,4 @@ pub mod Places
 pub mod Pages
 pub mod Fetch
 pub mod Tables
+pub mod Whole

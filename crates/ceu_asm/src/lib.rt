@@ -10,6 +10,6 @@ mod sheet;
 mod tests;
 
 pub use assembly::assemble;
-pub use laws::instructions_follow_their_label;
+pub use laws::{instructions_are_of_the_table, instructions_follow_their_label};
 pub use line::{Labels, Line};
 pub use sheet::Sheet;

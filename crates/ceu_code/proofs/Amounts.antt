@@ -1,16 +1,14 @@
 -- The numbers of an image.
-use Rattle.std.proofs.Common.{◌≡◌, ℕ, ◌+◌, ◌-◌, ◌*◌, ◌/◌, ◌%◌, ◌^◌, ◌≤◌, ◌<◌, ◌⊎◌, inl, inr, List, [], ◌∷◌, ◌++◌, length, take, drop, refl, sym, ap, ◌∙◌, subst, arith, min, lit<, lit≤, append_assoc, length-append}
-use Rattle.std.specs.List.{AllByRecursion, flat_map}
+use Rattle.std.proofs.Common.{ℕ, ◌-◌, ◌*◌, ◌%◌, ◌^◌, ◌≤◌, ◌<◌, List, ◌++◌, refl, ap, ◌∙◌, arith, lit<, lit≤}
 use Rattle.ceu_code.specs.declared.decoding.DecodeError.{DecodeError}
-use Rattle.ceu_code.specs.Table.{low_first}
-use Rattle.ceu_code.specs.Reading.{Reads, Words, Unique, Refused, Spelled, Counted, IsBetween}
-use Rattle.ceu_code.proofs.Reading.{Pair, pair_if, pair_second, read_pair, some_pair, unique_pair, refused_as, reads_as, unique_as}
+use Rattle.ceu_code.specs.Reading.{Reads, Words, Unique, Refused, IsBetween}
+use Rattle.ceu_code.proofs.Reading.{Pair, pair_if, pair_second, read_pair, some_pair, unique_pair, refused_as, unique_as}
 use Rattle.ceu_code.proofs.Numbers.{unique_between}
-use Rattle.ceu_code.proofs.Parsed.{byte_word, some_between}
+use Rattle.ceu_code.proofs.Parsed.{some_between}
 use Rattle.std.proofs.Math.Nat.{div-add-mod}
 use Rattle.ceu_code.specs.declared.decoder.Numbers.{Numbers}
 use Rattle.ceu_code.specs.Spelling.{half, word}
-use Rattle.ceu_code.specs.Decoding.{most_gates, most_slots, AreInRange, numbers_bytes, IsNumbers}
+use Rattle.ceu_code.specs.Decoding.{most_gates, most_slots, numbers_bytes, IsNumbers}
 
 mod_19 : (n : ℕ) → n % 19 < 19
 mod_19 n = grind arith

@@ -1,6 +1,6 @@
 -- Operands and instructions, part by part.
-use Rattle.std.proofs.Common.{◌≡◌, ◌≢◌, ℕ, zero, suc, ◌+◌, ◌-◌, ◌*◌, ◌/◌, ◌%◌, ◌^◌, ◌≤◌, ◌<◌, ◌⊎◌, inl, inr, Bool, true, false, List, [], ◌∷◌, ◌++◌, length, take, drop, get_or, Option, Some, None, refl, sym, ap, ◌∙◌, subst, arith, lit<, lit≤, append_assoc, length-append, drop-drop}
-use Rattle.std.specs.Prelude.{IsTrue, slice_range, slice_get, option_and_then}
+use Rattle.std.proofs.Common.{◌≡◌, ℕ, zero, suc, ◌+◌, ◌-◌, ◌/◌, ◌%◌, ◌^◌, ◌≤◌, ◌<◌, ◌⊎◌, inl, inr, List, [], ◌∷◌, ◌++◌, length, take, drop, get_or, Option, Some, None, refl, sym, ap, ◌∙◌, subst, arith, lit<, lit≤, append_assoc, length-append, drop-drop}
+use Rattle.std.specs.Prelude.{slice_range, slice_get, option_and_then}
 use Rattle.std.specs.List.{AllByRecursion, flat_map}
 use Rattle.std.proofs.lemmas.Option.{slice_get-get_or, slice_get_past}
 use Rattle.std.proofs.lemmas.List.{append-nil}
@@ -17,7 +17,7 @@ use Rattle.ceu_code.specs.declared.decoding.DecodeError.{DecodeError}
 use Rattle.ceu_code.specs.declared.decoding.DecodeError.TheVariants.{Bad}
 use Rattle.ceu_code.specs.Table.{low_first, type_at, InEither, small_cells, negative_cells, IsConstant, IsNumber, IsOperand, IsOperands, operand_width, operand_least, operand_greatest, operands_width, operands, row_of, table, IsInstruction, IsCode}
 use Rattle.ceu_code.specs.Reading.{Reads, Words, Stops, Unique, Refused, IsIn, IsBetween, Word, IsInstructionIn, IsCodeOf, HasNumbers}
-use Rattle.ceu_code.proofs.Reading.{same_head, same_tail, stop_here, stop_byte, stop_same, refused_more, read_both, Pair, pair_first, pair_second, read_pair, some_pair, unique_pair, refused_as, reads_as, unique_as}
+use Rattle.ceu_code.proofs.Reading.{same_head, same_tail, stop_here, stop_byte, stop_same, refused_more, read_both, Pair, pair_first, pair_second, read_pair, unique_pair}
 use Rattle.ceu_code.proofs.Numbers.{unique_between, low_first_same, some_number}
 use Rattle.ceu_code.proofs.Ports.{slice_word, read_slice, read_cons, nothing_left}
 
@@ -281,7 +281,7 @@ operand_long Open w f = number_long 1 0 2 w f
 operand_long Half w f = number_long 2 0 65535 w f
 operand_long FourBytes w f = number_long 4 0 4294967295 w f
 
-operands_long : (kinds : List Operand) (w : List ℕ) → IsOperands kinds w → length w ≡ operands_width kinds
+pub operands_long : (kinds : List Operand) (w : List ℕ) → IsOperands kinds w → length w ≡ operands_width kinds
 operands_long [] w f = ap length f
 operands_long (kind ∷ kinds) w (a, b, f, g, e) =
     ap length e ∙ length-append a b ∙ (let p = operand_long kind a f in let q = operands_long kinds b g in omega arith)

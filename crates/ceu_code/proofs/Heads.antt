@@ -1,9 +1,8 @@
 -- The head of an image: three letters and a version.
-use Rattle.std.proofs.Common.{◌≡◌, ℕ, ◌+◌, ◌-◌, ◌*◌, ◌/◌, ◌%◌, ◌^◌, ◌≤◌, ◌<◌, ◌⊎◌, inl, inr, List, [], ◌∷◌, ◌++◌, length, take, drop, refl, sym, ap, ◌∙◌, subst, arith, min, lit<, lit≤, append_assoc, length-append}
-use Rattle.std.specs.List.{AllByRecursion, flat_map}
+use Rattle.std.proofs.Common.{◌≡◌, ℕ, ◌≤◌, List, [], ◌∷◌, ◌++◌, refl, sym, ap, ◌∙◌, arith, lit<, lit≤}
 use Rattle.ceu_code.specs.declared.decoding.DecodeError.{DecodeError}
 use Rattle.ceu_code.specs.Table.{low_first}
-use Rattle.ceu_code.specs.Reading.{Reads, Words, Unique, Refused, Spelled, Counted, IsBetween}
+use Rattle.ceu_code.specs.Reading.{Reads, Words, Unique, Refused, IsBetween}
 use Rattle.ceu_code.proofs.Reading.{Pair, pair_if, pair_second, read_pair, some_pair, unique_pair, refused_as, reads_as, unique_as}
 use Rattle.ceu_code.proofs.Numbers.{unique_between}
 use Rattle.ceu_code.proofs.Parsed.{byte_word, some_between}

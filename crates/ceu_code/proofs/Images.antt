@@ -1,25 +1,21 @@
 -- An image, and what is said of bytes that are refused.
-use Rattle.std.proofs.Common.{◌≡◌, ℕ, ◌+◌, ◌-◌, ◌*◌, ◌/◌, ◌%◌, ◌^◌, ◌≤◌, ◌<◌, ◌⊎◌, inl, inr, List, [], ◌∷◌, ◌++◌, length, take, drop, suc, length-take-le, refl, sym, ap, ◌∙◌, subst, arith, min, lit<, lit≤, append_assoc, length-append}
-use Rattle.std.specs.List.{AllByRecursion, flat_map}
+use Rattle.std.proofs.Common.{◌≡◌, ℕ, ◌+◌, ◌-◌, ◌≤◌, ◌<◌, ◌⊎◌, List, [], ◌∷◌, ◌++◌, length, take, drop, suc, length-take-le, refl, sym, ap, ◌∙◌, subst, arith, lit<, lit≤, append_assoc, length-append}
 use Rattle.ceu_code.specs.declared.decoding.DecodeError.{DecodeError}
-use Rattle.ceu_code.specs.Table.{low_first}
-use Rattle.ceu_code.specs.Reading.{Reads, Words, Unique, Refused, Spelled, Counted, IsBetween}
+use Rattle.ceu_code.specs.Reading.{Reads, Words, Unique, Refused, IsBetween}
 use Rattle.ceu_code.proofs.Reading.{Pair, pair_if, pair_second, read_pair, some_pair, unique_pair, refused_as, reads_as, unique_as}
 use Rattle.ceu_code.proofs.Numbers.{unique_between}
-use Rattle.ceu_code.proofs.Parsed.{byte_word, some_between}
-use Rattle.std.specs.Prelude.{slice_range}
-use Rattle.std.proofs.lemmas.List.{append-nil, append_cancel_left}
+use Rattle.ceu_code.proofs.Parsed.{some_between}
+use Rattle.std.proofs.lemmas.List.{append-nil}
 use Rattle.std.proofs.Math.Seq.{take-append_seam, take-append-add, drop-length}
-use Rattle.ceu_base.specs.declared.kinds.Port.{Port}
 use Rattle.ceu_code.specs.declared.image.Image.{Image}
 use Rattle.ceu_code.specs.declared.decoder.Numbers.{Numbers}
 use Rattle.ceu_code.specs.declared.decoder.Lists.{Lists}
 use Rattle.ceu_code.specs.declared.decoding.DecodeError.TheVariants.{Bad, Memory}
-use Rattle.ceu_code.specs.Spelling.{half, version, HasSpelling, spelling, Spells, BeginsImage, LongestBeginning, numbers, lists}
-use Rattle.ceu_code.specs.Reading.{Word, IsCodeOf, Stops}
-use Rattle.ceu_code.specs.Decoding.{IsHead, IsNumbers, IsLists, IsImage, AreInRange, numbers_bytes, most_gates, most_slots, IsCause, image_of}
+use Rattle.ceu_code.specs.Spelling.{half, version, HasSpelling, spelling, Spells, BeginsImage, numbers, lists}
+use Rattle.ceu_code.specs.Reading.{Word, IsCodeOf}
+use Rattle.ceu_code.specs.Decoding.{IsHead, IsNumbers, IsLists, IsImage, AreInRange, IsCause, image_of}
 use Rattle.ceu_code.proofs.Codes.{some_code, unique_own, apart_code}
-use Rattle.ceu_code.proofs.Heads.{unique_head, some_head}
+use Rattle.ceu_code.proofs.Heads.{unique_head}
 use Rattle.ceu_code.proofs.Amounts.{unique_numbers, some_numbers, gate_fits, fits_gate}
 use Rattle.ceu_code.proofs.Listed.{unique_lists, some_lists, some_pools}
 

@@ -9,3 +9,4 @@ pub mod Heads
 pub mod Amounts
 pub mod Listed
 pub mod Images
+pub mod Shown

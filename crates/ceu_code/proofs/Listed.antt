@@ -1,17 +1,13 @@
 -- The lists of an image.
-use Rattle.std.proofs.Common.{◌≡◌, ℕ, ◌+◌, ◌-◌, ◌*◌, ◌/◌, ◌%◌, ◌^◌, ◌≤◌, ◌<◌, ◌⊎◌, inl, inr, List, [], ◌∷◌, ◌++◌, length, take, drop, refl, sym, ap, ◌∙◌, subst, arith, min, lit<, lit≤, append_assoc, length-append}
-use Rattle.std.specs.List.{AllByRecursion, flat_map}
+use Rattle.std.proofs.Common.{◌≡◌, ℕ, ◌^◌, ◌≤◌, ◌<◌, ◌⊎◌, inl, inr, List, [], ◌∷◌, ◌++◌, refl, sym, ap, ◌∙◌, subst, arith, lit<, lit≤}
 use Rattle.ceu_code.specs.declared.decoding.DecodeError.{DecodeError}
-use Rattle.ceu_code.specs.Table.{low_first}
-use Rattle.ceu_code.specs.Reading.{Reads, Words, Unique, Refused, Spelled, Counted, IsBetween}
+use Rattle.ceu_code.specs.Reading.{Reads, Words, Unique, Refused, Counted}
 use Rattle.ceu_code.proofs.Reading.{Pair, pair_if, pair_second, read_pair, some_pair, unique_pair, refused_as, reads_as, unique_as}
-use Rattle.ceu_code.proofs.Numbers.{unique_between}
-use Rattle.ceu_code.proofs.Parsed.{byte_word, some_between}
 use Rattle.ceu_base.specs.declared.kinds.Port.{Port}
 use Rattle.ceu_base.specs.declared.kinds.Pos.{Pos}
 use Rattle.ceu_code.specs.declared.image.CodeRow.{CodeRow}
 use Rattle.ceu_code.specs.declared.decoder.Lists.{Lists}
-use Rattle.ceu_code.specs.Spelling.{half, port, code_row, position, version, pool_list, counted, IsPort, IsCodeRow, IsPlace}
+use Rattle.ceu_code.specs.Spelling.{half, port, code_row, position, pool_list, counted, IsPort, IsCodeRow, IsPlace}
 use Rattle.ceu_code.specs.Decoding.{IsPools, IsLists}
 use Rattle.ceu_code.proofs.Rows.{unique_counted, unique_half}
 use Rattle.ceu_code.proofs.Parsed.{unique_row, unique_place}

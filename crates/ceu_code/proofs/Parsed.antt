@@ -1,6 +1,6 @@
 -- The rows of an image, part by part.
-use Rattle.std.proofs.Common.{◌≡◌, ◌≢◌, ℕ, zero, suc, ◌+◌, ◌-◌, ◌≤◌, ◌<◌, ◌^◌, ◌%◌, ◌/◌, List, [], ◌∷◌, ◌++◌, length, map, lit≤, refl, sym, ap, ◌∙◌, subst, arith}
-use Rattle.std.specs.List.{AllByRecursion, flat_map}
+use Rattle.std.proofs.Common.{◌≡◌, ◌≢◌, ℕ, zero, suc, ◌≤◌, ◌<◌, ◌^◌, ◌%◌, List, [], ◌∷◌, ◌++◌, length, map, lit≤, refl, sym, ap, ◌∙◌, arith}
+use Rattle.std.specs.List.{flat_map}
 use Rattle.ceu_base.specs.declared.kinds.Pos.{Pos}
 use Rattle.ceu_base.specs.declared.kinds.Ty.{Ty}
 use Rattle.ceu_base.specs.declared.kinds.Ty.TheVariants as ty
@@ -8,7 +8,7 @@ use Rattle.ceu_code.specs.declared.image.CodeRow.{CodeRow}
 use Rattle.ceu_code.specs.Table.{low_first, type_byte, type_at}
 use Rattle.ceu_code.specs.Spelling.{half, word, position, IsPlace, code_row, IsCodeRow}
 use Rattle.ceu_code.specs.declared.decoding.DecodeError.{DecodeError}
-use Rattle.ceu_code.specs.Reading.{Reads, Words, Stops, Then, Unique, Refused, Spelled, Items, IsBetween}
+use Rattle.ceu_code.specs.Reading.{Reads, Words, Unique, Refused, Spelled, Items, IsBetween}
 use Rattle.ceu_code.proofs.Reading.{Pair, pair_first, pair_second, read_pair, some_pair, unique_pair, refused_as, reads_as, unique_as}
 use Rattle.ceu_code.proofs.Numbers.{unique_between}
 use Rattle.ceu_code.proofs.Rows.{some_items, unique_items}

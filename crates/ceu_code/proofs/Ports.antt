@@ -2,7 +2,6 @@
 use Rattle.std.proofs.Common.{◌≡◌, ℕ, zero, suc, ◌+◌, ◌-◌, ◌≤◌, ◌<◌, Bool, true, false, List, [], ◌∷◌, ◌++◌, length, take, drop, get_or, refl, sym, ap, ◌∙◌, subst, arith}
 use Rattle.std.specs.Prelude.{IsTrue, slice_range}
 use Rattle.std.specs.List.{AllByRecursion}
-use Rattle.std.specs.Str.{IsAscii}
 use Rattle.std.proofs.Math.Seq.{take-append_seam, drop-length}
 use Rattle.ceu_base.specs.declared.kinds.Port.{Port}
 use Rattle.ceu_base.specs.declared.kinds.Ty.{Ty}
@@ -12,7 +11,7 @@ use Rattle.ceu_code.specs.declared.decoding.DecodeError.{DecodeError}
 use Rattle.ceu_code.specs.Reading.{Reads, Words, Stops, Unique, Refused, Spelled, IsBetween, IsNameRest, IsNameOf}
 use Rattle.ceu_code.proofs.Reading.{same_head, same_tail, stop_here, stop_byte, refused_more, Pair, pair_first, pair_second, read_pair, some_pair, unique_pair, refused_as, reads_as, unique_as}
 use Rattle.ceu_code.proofs.Numbers.{unique_between}
-use Rattle.ceu_code.proofs.Parsed.{byte_word, some_between, type_byte-at, type_at-byte}
+use Rattle.ceu_code.proofs.Parsed.{byte_word, type_byte-at, type_at-byte}
 
 -- ---- the bytes between two places
 

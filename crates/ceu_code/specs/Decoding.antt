@@ -1,16 +1,13 @@
 -- The parts of an image as they are read, and what is said of bytes that are refused.
-use Rattle.std.specs.Prelude.{◌≡◌, ℕ, ◌+◌, ◌-◌, ◌*◌, ◌/◌, ◌^◌, ◌<◌, ◌≤◌, List, [], ◌∷◌, ◌++◌, length, min}
+use Rattle.std.specs.Prelude.{◌≡◌, ℕ, ◌-◌, ◌*◌, ◌/◌, ◌^◌, ◌<◌, ◌≤◌, List, [], ◌∷◌, ◌++◌, length, min}
 use Rattle.std.specs.List.{AllByRecursion}
-use Rattle.ceu_base.specs.declared.kinds.Port.{Port}
-use Rattle.ceu_base.specs.declared.kinds.Pos.{Pos}
-use Rattle.ceu_code.specs.declared.image.CodeRow.{CodeRow}
 use Rattle.ceu_code.specs.declared.image.Image.{Image}
 use Rattle.ceu_code.specs.declared.decoder.Numbers.{Numbers}
 use Rattle.ceu_code.specs.declared.decoder.Lists.{Lists}
 use Rattle.ceu_code.specs.declared.decoding.DecodeError.{DecodeError}
 use Rattle.ceu_code.specs.declared.decoding.DecodeError.TheVariants.{Bad, Memory}
 use Rattle.ceu_code.specs.Spelling.{half, word, port, code_row, position, version, pool_list, counted, IsPort, IsCodeRow, IsPlace, HasSpelling, spelling, Spells, LongestBeginning}
-use Rattle.ceu_code.specs.Reading.{Spelled, Counted}
+use Rattle.ceu_code.specs.Reading.{Spelled}
 
 -- the letters CEU and a version
 abbrev pub IsHead : ℕ → List ℕ → Type 0

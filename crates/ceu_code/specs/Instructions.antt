@@ -1,9 +1,6 @@
 -- Each instruction as bytes, and which operands it may have.
-use Rattle.std.specs.Prelude.{◌≡◌, ◌≢◌, ℕ, ◌+◌, ◌^◌, ◌<◌, ◌≤◌, ℤ, pos, List, [], ◌∷◌, ◌++◌, unsigned_abs}
+use Rattle.std.specs.Prelude.{ℕ, ◌^◌, ℤ, pos, List, [], ◌∷◌, ◌++◌, unsigned_abs}
 use Rattle.std.specs.Int.{int_rem_euclid}
-use Rattle.ceu_base.specs.Values.{IsValue}
-use Rattle.ceu_base.specs.declared.kinds.Ty.{Ty}
-use Rattle.ceu_base.specs.declared.kinds.Ty.TheVariants as ty
 use Rattle.ceu_base.specs.declared.kinds.Op1.{Op1}
 use Rattle.ceu_base.specs.declared.kinds.Op1.TheVariants.{Not, Neg, Compl}
 use Rattle.ceu_base.specs.declared.kinds.Op2.{Op2}

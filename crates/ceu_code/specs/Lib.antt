@@ -3,3 +3,4 @@ pub mod Spelling
 pub mod Instructions
 pub mod Reading
 pub mod Decoding
+pub mod Text

@@ -1,5 +1,5 @@
 -- What a reader of bytes answers: what it read and where it ended, or the first place at which nothing that it reads goes on so.
-use Rattle.std.specs.Prelude.{◌≡◌, ℕ, ◌+◌, ◌*◌, ◌^◌, ◌-◌, ◌/◌, ◌≤◌, nat_lt, nat_le, if◌then◌else◌, IsTrue, List, [], ◌∷◌, ◌++◌, length, drop}
+use Rattle.std.specs.Prelude.{◌≡◌, ℕ, ◌+◌, ◌-◌, ◌/◌, ◌≤◌, nat_lt, nat_le, if◌then◌else◌, IsTrue, List, ◌∷◌, ◌++◌, length, drop}
 use Rattle.std.specs.List.{AllByRecursion, flat_map}
 use Rattle.ceu_code.specs.declared.decoding.DecodeError.{DecodeError}
 use Rattle.ceu_code.specs.declared.decoding.DecodeError.TheVariants.{Bad, Memory}

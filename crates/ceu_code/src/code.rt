@@ -11,7 +11,7 @@ use crate::table::{Operand, Row, TABLE};
 use ceu_base::Ty;
 
 /// The operands of an opcode, where it is one.
-fn row_of(opcode: u8) -> Option<Row>
+pub fn row_of(opcode: u8) -> Option<Row>
     ensures { result ≡ table.row_of opcode }
 {
     if opcode < 39 {
@@ -22,7 +22,7 @@ fn row_of(opcode: u8) -> Option<Row>
 }
 
 /// How many bytes an operand has.
-fn width_of(kind: Operand) -> u8
+pub fn width_of(kind: Operand) -> u8
     ensures value { result ≡ table.operand_width kind }
     ensures small { result ≤ 9 }
 {
@@ -147,7 +147,7 @@ fn read_operands(bytes: &[u8], at: usize, kinds: &[Operand]) -> Result<usize, De
 }
 
 /// How many bytes an instruction with these operands has behind its opcode.
-fn operands_width(row: &Row) -> u16
+pub fn operands_width(row: &Row) -> u16
     ensures value { result ≡ table.operands_width (table.operands row.now) }
     ensures small { result ≤ 45 }
 {

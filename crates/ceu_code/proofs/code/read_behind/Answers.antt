@@ -1,4 +1,4 @@
-use Rattle.std.proofs.Common.{◌<◌, ◌≤◌, ℕ, get_or, length, arith}
+use Rattle.std.proofs.Common.{◌<◌, ◌≤◌, get_or, arith}
 use Rattle.std.proofs.lemmas.Result.{IfErr-weaker, IfOk-weaker}
 use Rattle.ceu_code.specs.Table.{operands, operands_width}
 use Rattle.ceu_code.proofs.Numbers.{cut_at}

@@ -1,9 +1,6 @@
-use Rattle.std.proofs.Common.{◌<◌, ◌≤◌, ◌≡◌, ◌+◌, ◌-◌, ◌∙◌, sym, ap, subst, ℕ, List, length, arith}
-use Rattle.std.specs.List.{flat_map}
+use Rattle.std.proofs.Common.{◌≤◌, length, arith}
 use Rattle.std.specs.Prelude.{slice_range}
 use Rattle.std.proofs.lemmas.Result.{err_from_is_err_and}
-use Rattle.ceu_code.specs.Reading.{Refused, Words, Word, IsCodeOf, IsInstructionIn, Stops}
-use Rattle.ceu_code.proofs.Reading.{refused_more}
 use Rattle.ceu_code.proofs.Codes.{code_refused, code_read_on}
 use Rattle.ceu_code.proofs.code.read_code.Goals as goal
 

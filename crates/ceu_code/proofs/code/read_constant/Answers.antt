@@ -1,6 +1,5 @@
-use Rattle.std.proofs.Common.{subst, ap, ◌∙◌, ℕ}
+use Rattle.std.proofs.Common.{subst, ap, ◌∙◌}
 use Rattle.std.proofs.lemmas.Result.{err_from_is_err_and}
-use Rattle.ceu_base.specs.declared.kinds.Ty.{Ty}
 use Rattle.ceu_code.specs.declared.span.Span.{Span}
 use Rattle.ceu_code.specs.Table.{small_cells, negative_cells, type_at}
 use Rattle.ceu_code.specs.Reading.{Reads, Refused, Words, IsIn}

@@ -1,4 +1,4 @@
-use Rattle.std.proofs.Common.{◌<◌, ◌≤◌, ◌∙◌, sym, ℕ, get_or, length, arith}
+use Rattle.std.proofs.Common.{◌<◌, ◌∙◌, sym, get_or, length, arith}
 use Rattle.ceu_code.proofs.Numbers.{cut_at}
 use Rattle.ceu_code.proofs.Codes.{instruction_ends, opcode_refused}
 use Rattle.ceu_code.proofs.code.read_instruction.Goals as goal

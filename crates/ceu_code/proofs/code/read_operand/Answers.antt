@@ -1,10 +1,10 @@
 use Rattle.std.proofs.Common.{subst, sym, ◌∙◌, ℕ, ◌≡◌, rules, true, false}
-use Rattle.std.proofs.lemmas.Result.{err_from_is_err_and, IfErr-weaker}
+use Rattle.std.proofs.lemmas.Result.{err_from_is_err_and}
 use Rattle.std.specs.Prelude.{IfErr}
 use Rattle.ceu_code.specs.declared.span.Span.{Span}
 use Rattle.ceu_code.specs.declared.table.Operand.{Operand}
 use Rattle.ceu_code.specs.declared.table.Operand.TheVariants.{Constant}
-use Rattle.ceu_code.specs.Table.{IsOperand, operand_width, operand_span}
+use Rattle.ceu_code.specs.Table.{IsOperand, operand_width}
 use Rattle.ceu_code.specs.Reading.{Refused, Words, Word, IsBetween}
 use Rattle.ceu_code.proofs.Codes.{operand_refused}
 use Rattle.ceu_code.proofs.code.read_operand.Goals as goal

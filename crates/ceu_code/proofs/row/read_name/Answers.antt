@@ -1,4 +1,4 @@
-use Rattle.std.proofs.Common.{ℕ, ◌<◌, ◌+◌, ◌-◌, ◌≡◌, suc, get_or, length, arith}
+use Rattle.std.proofs.Common.{◌<◌, get_or, length, arith}
 use Rattle.std.proofs.lemmas.Result.{IfOk-weaker, IfErr-weaker}
 use Rattle.ceu_code.proofs.Numbers.{cut_at}
 use Rattle.ceu_code.proofs.Ports.{name_ends, name_refuses, name_refused, name_read}

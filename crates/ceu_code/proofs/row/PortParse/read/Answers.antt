@@ -1,8 +1,7 @@
-use Rattle.std.proofs.Common.{ℕ, subst, sym, List, ◌≡◌, ◌-◌, ap, ◌∙◌, get_or, ◌<◌}
+use Rattle.std.proofs.Common.{ℕ, subst, sym, List, ◌-◌}
 use Rattle.std.specs.Prelude.{slice_range}
 use Rattle.std.proofs.lemmas.Result.{err_from_is_err_and}
 use Rattle.ceu_base.specs.declared.kinds.Ty.{Ty}
-use Rattle.ceu_code.specs.Table.{type_at}
 use Rattle.ceu_code.specs.Spelling.{IsPort, port}
 use Rattle.ceu_code.specs.Reading.{Reads, Spelled, IsNameOf}
 use Rattle.ceu_code.proofs.Ports.{refused_kind, refused_length, refused_name, port_read, name_ascii}

@@ -1,0 +1,4 @@
+use Rattle.ceu_code.proofs.listing.+number_at.Given as goal
+
+abbrev pub decreases-number_at : goal.decreases-number_at
+decreases-number_at l = l.width
