@@ -11,3 +11,5 @@ pub mod Steps
 pub mod Depths
 pub mod Good
 pub mod Shaping
+pub mod Below
+pub mod EventLaws

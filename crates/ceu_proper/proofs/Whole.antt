@@ -110,17 +110,17 @@ texts_then {d = d} {e = e} {f = f} {m = m} {n = n} {i = i} {j = j} {u = u} {v = 
 -- ---- the parameters of code
 
 -- a draft but for its declarations
-bare : Draft → Draft
+unfoldable pub bare : Draft → Draft
 bare d = record d { numbers = []; parts = record d.parts { decls = []; slot = 0 } }
 
-record Declared (count : ℕ) (before after : Draft) : Type 0 where
-  stays : bare after ≡ bare before
-  decls : List KDecl
-  decls_is : after.parts.decls ≡ before.parts.decls ++ decls
-  slot_is : after.parts.slot ≡ before.parts.slot + count
-  decl_runs : Runs before.parts.slot (decl_slots decls) after.parts.slot
+pub record Declared (count : ℕ) (before after : Draft) : Type 0 where
+  pub stays : bare after ≡ bare before
+  pub decls : List KDecl
+  pub decls_is : after.parts.decls ≡ before.parts.decls ++ decls
+  pub slot_is : after.parts.slot ≡ before.parts.slot + count
+  pub decl_runs : Runs before.parts.slot (decl_slots decls) after.parts.slot
 
-params_are : (ps : List Param) (d : Draft) → Declared (length ps) d (each param_declared ps d)
+pub params_are : (ps : List Param) (d : Draft) → Declared (length ps) d (each param_declared ps d)
 unfolding each bare declared
 params_are [] d = record { stays = refl; decls = []; decls_is = append_none d.parts.decls; slot_is = omega arith; decl_runs = refl }
 params_are (x ∷ xs) d =

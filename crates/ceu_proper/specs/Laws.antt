@@ -6,6 +6,7 @@ use Rattle.ceu_scopes.specs.declared.known.Scopes.{Scopes}
 use Rattle.ceu_scopes.specs.Names.{scopes_of}
 use Rattle.ceu_types.specs.declared.typing.Types.{Types}
 use Rattle.ceu_expand.specs.Expansion.{kernel_of}
+use Rattle.ceu_proper.specs.Events.{EventsInCodes}
 use Rattle.ceu_proper.specs.Shaped.{TreePlaced, KernelShaped}
 
 -- nodes and slots are counted from 0 in pre-order over the program's text and then each code, its parameters before its body
@@ -15,3 +16,7 @@ KernelsNumbered = (tree : Tree) (s : Scopes) (t : Types) → scopes_of tree ≡ 
 -- positions, ranges and the branches of a par are taken over from the text
 abbrev pub KernelsShaped : Type 0
 KernelsShaped = (tree : Tree) (s : Scopes) (t : Types) → TreePlaced tree → KernelShaped (kernel_of s t tree)
+
+-- an event of a code names one of the kernel's
+abbrev pub KernelsEvents : Type 0
+KernelsEvents = (tree : Tree) (s : Scopes) (t : Types) → scopes_of tree ≡ Ok s → EventsInCodes (kernel_of s t tree)
