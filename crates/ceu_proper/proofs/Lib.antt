@@ -13,3 +13,4 @@ pub mod Good
 pub mod Shaping
 pub mod Below
 pub mod EventLaws
+pub mod Small

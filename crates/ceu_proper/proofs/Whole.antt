@@ -186,14 +186,14 @@ module _ (s : Scopes) (t : Types) where
   nodes_texts a (more_of-Node p st rest) h d = texts_then (stmt_texts a p st h.0 d) (nodes_texts a rest h.1 (stmt_written s t a p st d))
 
   -- the text and its codes, where these are counted behind it
-  row_numbered : {n : _} (r : Row_of-Node n) → OutermostNodes r → (m k : ℕ) →
+  pub row_runs : {n : _} (r : Row_of-Node n) → OutermostNodes r → (m k : ℕ) →
       m ≡ nodes_add r + 1 → k ≡ declared_in r + nodes_hide r →
       let f = nodes_written s t of_program r in
       let d = nothing_written m k in
-      IsTrue (counts_from 0 (block_nodes (block_of (declared_in r) f d) ++ codes_nodes (around_block (declared_in r) f d).codes)) ×
-      IsTrue (counts_from 0 (block_slots (block_of (declared_in r) f d) ++ codes_slots (around_block (declared_in r) f d).codes))
+      Runs 0 (block_nodes (block_of (declared_in r) f d) ++ codes_nodes (around_block (declared_in r) f d).codes) (around_block (declared_in r) f d).other_node ×
+      Runs 0 (block_slots (block_of (declared_in r) f d) ++ codes_slots (around_block (declared_in r) f d).codes) (around_block (declared_in r) f d).other_slot
   unfolding nothing_written opened outside written closed
-  row_numbered r h m k hm hk =
+  row_runs r h m k hm hk =
       let d : Draft = nothing_written m k in
       let e : Draft = nodes_written s t of_program r (opened (declared_in r) d) in
       let texts = nodes_texts of_program r h (opened (declared_in r) d) in
@@ -210,11 +210,19 @@ module _ (s : Scopes) (t : Types) where
       (subst (λ x. Runs (0 + declared_in r) (slots_of texts.list) x) slot texts.slots)) in
       let code_nodes : Runs m (codes_nodes e.codes) e.other_node = subst (λ x. Runs m (codes_nodes x) e.other_node) (sym texts.codes_is) texts.code_nodes in
       let code_slots : Runs k (codes_slots e.codes) e.other_slot = subst (λ x. Runs k (codes_slots x) e.other_slot) (sym texts.codes_is) texts.code_slots in (
-        runs_counts 0 _ e.other_node (runs_append 0 _ m (codes_nodes e.codes) e.other_node nodes code_nodes),
-        runs_counts 0 _ e.other_slot (runs_append 0 _ k (codes_slots e.codes) e.other_slot slots code_slots),
+        runs_append 0 _ m (codes_nodes e.codes) e.other_node nodes code_nodes,
+        runs_append 0 _ k (codes_slots e.codes) e.other_slot slots code_slots,
       )
 
-  row_counted : {n : _} (r : Row_of-Node n) → OutermostNodes r →
+  row_numbered : {n : _} (r : Row_of-Node n) → OutermostNodes r → (m k : ℕ) →
+      m ≡ nodes_add r + 1 → k ≡ declared_in r + nodes_hide r →
+      let f = nodes_written s t of_program r in
+      let d = nothing_written m k in
+      IsTrue (counts_from 0 (block_nodes (block_of (declared_in r) f d) ++ codes_nodes (around_block (declared_in r) f d).codes)) ×
+      IsTrue (counts_from 0 (block_slots (block_of (declared_in r) f d) ++ codes_slots (around_block (declared_in r) f d).codes))
+  row_numbered r h m k hm hk = let runs = row_runs r h m k hm hk in (runs_counts 0 _ _ runs.0, runs_counts 0 _ _ runs.1)
+
+  pub row_counted : {n : _} (r : Row_of-Node n) → OutermostNodes r →
       let d = around_block (declared_in r) (nodes_written s t of_program r) (nothing_written 0 0) in
       (d.node ≡ nodes_add r + 1) × (d.slot ≡ declared_in r + nodes_hide r)
   unfolding nothing_written opened outside written closed
