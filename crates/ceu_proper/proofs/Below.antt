@@ -1,6 +1,5 @@
 -- Events that belong to codes below a number, and what keeps them so.
-use Rattle.std.proofs.Common.{◌≡◌, refl, ℕ, ◌+◌, ◌<◌, arith, List, [], ◌∷◌, ◌++◌, Option, Some, None}
-use Rattle.std.specs.Prelude.{⊤}
+use Rattle.std.proofs.Common.{ℕ, List, [], ◌∷◌, Option, Some, None}
 use Rattle.ceu_base.specs.declared.kinds.Ty.{Ty}
 use Rattle.ceu_base.specs.declared.kinds.Pos.{Pos}
 use Rattle.ceu_tree.specs.declared.source.Ident.{Ident}
@@ -14,11 +13,11 @@ use Rattle.ceu_tree.specs.declared.source.Target.TheVariants as target
 use Rattle.ceu_tree.specs.declared.kernel.KKind.{KKind}
 use Rattle.ceu_tree.specs.declared.kernel.KStmt.{KStmt}
 use Rattle.ceu_expand.specs.declared.draft.Draft.{Draft}
-use Rattle.ceu_expand.specs.Draft.{begun, hidden, placed, outside, opened, closed, around_block, standing, declared, event_declared, input_declared, output_declared, labelled, unlabelled}
+use Rattle.ceu_expand.specs.Draft.{begun, hidden, placed, opened, closed, around_block, standing, declared, event_declared, input_declared, output_declared, labelled, unlabelled}
 use Rattle.ceu_expand.specs.Lists.{each}
 use Rattle.ceu_expand.specs.Uses.{used, if_used}
 use Rattle.ceu_expand.specs.Expressions.{typed, node_passed, row_passed, exp_passed, if_exp_passed}
-use Rattle.ceu_expand.specs.Parts.{nothing_in, target_passed}
+use Rattle.ceu_expand.specs.Parts.{target_passed}
 use Rattle.ceu_proper.specs.Shaped.{AllOf}
 use Rattle.ceu_proper.specs.Events.{CodeBelow, EventBelow}
 use Rattle.ceu_proper.proofs.Good.{all_append}

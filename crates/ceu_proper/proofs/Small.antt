@@ -1,9 +1,6 @@
 -- A kernel has at most seven nodes for each part of its tree.
-use Rattle.std.proofs.Common.{◌≡◌, refl, sym, ap, ◌∙◌, subst, ℕ, zero, suc, ◌+◌, ◌*◌, ◌≤◌, length, arith, List, [], ◌∷◌, ◌++◌, Option, Some, None}
+use Rattle.std.proofs.Common.{◌≡◌, ap, ℕ, ◌+◌, ◌*◌, ◌≤◌, length, arith, ◌++◌, Some, None}
 use Rattle.ceu_base.specs.declared.kinds.Pos.{Pos}
-use Rattle.ceu_base.specs.declared.kinds.Ty.{Ty}
-use Rattle.ceu_tree.specs.declared.source.Ident.{Ident}
-use Rattle.ceu_tree.specs.declared.source.Param.{Param}
 use Rattle.ceu_tree.specs.declared.source.Await.{Await}
 use Rattle.ceu_tree.specs.declared.source.Await.TheVariants as await
 use Rattle.ceu_tree.specs.declared.source.Source as source
@@ -24,9 +21,9 @@ use Rattle.ceu_expand.specs.declared.draft.Draft.{Draft}
 use Rattle.ceu_expand.specs.Draft.{of_program, nothing_written, opened, closed, outside, block_of, around_block, standing, entered, left, with_code}
 use Rattle.ceu_expand.specs.Lists.{each}
 use Rattle.ceu_expand.specs.Parts.{param_declared}
-use Rattle.ceu_expand.specs.Expansion.{declared_in, code_begun, code_around, code_ended, stmt_written, nodes_written, block_written, block_passed, counted, begun_program, kernel_of}
+use Rattle.ceu_expand.specs.Expansion.{declared_in, code_begun, code_around, code_ended, stmt_written, nodes_written, block_written, block_passed, counted, kernel_of}
 use Rattle.ceu_proper.specs.Sizes.{stmt_size, source_size, value_size, do_size, block_size, arm_size, last_size, range_size, items_size, arms_size, blocks_size, nodes_size, tree_size}
-use Rattle.ceu_proper.proofs.Codes.{NoCode, NoCodeInBlock, Outermost, OutermostNodes, OutermostBlock, CodesOutermost}
+use Rattle.ceu_proper.proofs.Codes.{Outermost, OutermostNodes, OutermostBlock, CodesOutermost}
 use Rattle.ceu_proper.proofs.Runs.{runs_length}
 use Rattle.ceu_proper.proofs.Parts.{await_nodes_in}
 use Rattle.ceu_proper.proofs.Counts.{stmt_adds, source_adds, value_adds, do_adds, range_adds, every_adds, block_adds, arm_adds, last_adds, nodes_add, nodes_hide, items_add, arms_add, blocks_add}

@@ -1,5 +1,5 @@
 -- The whole program: its text, and behind it its codes.
-use Rattle.std.proofs.Common.{◌≡◌, refl, sym, ap, ◌∙◌, subst, ℕ, zero, suc, ◌+◌, length, arith, List, [], ◌∷◌, ◌++◌}
+use Rattle.std.proofs.Common.{◌≡◌, refl, sym, ap, ◌∙◌, subst, ℕ, ◌+◌, length, arith, List, [], ◌∷◌, ◌++◌}
 use Rattle.std.specs.Prelude.{Bool, IsTrue, ◌&&◌}
 use Rattle.ceu_base.specs.declared.kinds.Ty.{Ty}
 use Rattle.ceu_base.specs.declared.kinds.Pos.{Pos}
@@ -22,11 +22,11 @@ use Rattle.ceu_expand.specs.declared.draft.Draft.{Draft}
 use Rattle.ceu_expand.specs.Draft.{of_program, opened, outside, written, closed, block_of, around_block, standing, entered, left, with_code, declared, nothing_written}
 use Rattle.ceu_expand.specs.Lists.{each}
 use Rattle.ceu_expand.specs.Parts.{param_declared}
-use Rattle.ceu_expand.specs.Expansion.{declared_by, declared_in, code_begun, code_around, code_ended, stmt_written, nodes_written, block_written, block_passed, counted, begun_program, kernel_of}
-use Rattle.ceu_proper.proofs.Codes.{NoCode, NoCodeInBlock, Outermost, OutermostNodes, OutermostBlock, CodesOutermost}
+use Rattle.ceu_expand.specs.Expansion.{declared_by, declared_in, code_begun, code_around, code_ended, stmt_written, nodes_written, block_written, block_passed, counted, kernel_of}
+use Rattle.ceu_proper.proofs.Codes.{NoCodeInBlock, Outermost, OutermostNodes, OutermostBlock, CodesOutermost}
 use Rattle.ceu_proper.proofs.Runs.{Runs, runs_append, runs_counts}
 use Rattle.ceu_proper.proofs.Shapes.{nodes_of, slots_of, rolled_nodes, rolled_slots}
-use Rattle.ceu_proper.proofs.Inside.{Inside, Wrote, append_none, append_assoc, nodes_append, slots_append, decl_slots_append}
+use Rattle.ceu_proper.proofs.Inside.{Wrote, append_none, append_assoc, nodes_append, slots_append, decl_slots_append}
 use Rattle.ceu_proper.proofs.Counts.{stmt_adds, stmt_hides, nodes_add, nodes_hide}
 use Rattle.ceu_proper.proofs.Wrote.{stmt_wrote, block_in}
 

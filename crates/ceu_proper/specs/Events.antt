@@ -1,5 +1,5 @@
 -- An event of a code names one of the kernel's.
-use Rattle.std.specs.Prelude.{⊤, ℕ, ◌<◌, List, length, Option, Some, None}
+use Rattle.std.specs.Prelude.{⊤, ℕ, ◌<◌, length, Option, Some, None}
 use Rattle.ceu_tree.specs.declared.kernel.Kernel.{Kernel}
 use Rattle.ceu_tree.specs.declared.kernel.KEvent.{KEvent}
 use Rattle.ceu_proper.specs.Shaped.{AllOf}
