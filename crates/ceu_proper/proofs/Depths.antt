@@ -1,5 +1,5 @@
 -- A program that breaks no rule on names has its code in the outermost block.
-use Rattle.std.proofs.Common.{◌≡◌, refl, sym, ap, ◌∙◌, subst, ℕ, zero, suc, ◌+◌, ◌≤◌, length, arith, List, [], ◌∷◌, Option, Some, None, Result, Ok, Err}
+use Rattle.std.proofs.Common.{◌≡◌, refl, ℕ, suc, ◌≤◌, length, arith, List, [], Option, Some, None, Ok}
 use Rattle.std.specs.Prelude.{⊤}
 use Rattle.ceu_base.specs.declared.kinds.Rule.{Rule}
 use Rattle.ceu_base.specs.declared.kinds.Ty.{Ty}
@@ -36,11 +36,11 @@ use Rattle.ceu_scopes.specs.declared.scope.Border.{Border}
 use Rattle.ceu_scopes.specs.declared.scope.Border.TheVariants.{Plain, Async, Body}
 use Rattle.ceu_scopes.specs.declared.walk.Walk.{Walk}
 use Rattle.ceu_scopes.specs.Shown.{added, rest_of}
-use Rattle.ceu_scopes.specs.Walk.{Broken, Step, ◌>>=◌, each, opened, closed, shown, fresh}
-use Rattle.ceu_scopes.specs.Rules.{checked, used, named, pool_used, alias_used, set_broken, inside_broken, declared, label_broken}
-use Rattle.ceu_scopes.specs.Names.{node_walked, operand_walked, exp_walked, exps_walked, if_exp_walked, call_walked, spawned, spawn_walked, if_spawn_walked, target_walked, await_walked, ident_declared, port_declared, param_declared, pool_declared, start_broken, alias_declared, pool_walked, alias_walked, value_broken, params_opened, range_opened, labelled, unlabelled, escape_walked, name_listed, list_walked, target_assigned, emit_walked, leave_walked, code_opened, every_walked, stmt_walked, source_walked, value_walked, do_walked, block_walked, arm_walked, last_walked, range_walked, items_walked, arms_walked, blocks_walked, nodes_walked, fresh_walk, gathered, scopes_of}
+use Rattle.ceu_scopes.specs.Walk.{Step, ◌>>=◌, opened, closed, shown, fresh}
+use Rattle.ceu_scopes.specs.Rules.{used, named, pool_used, inside_broken, declared, label_broken}
+use Rattle.ceu_scopes.specs.Names.{node_walked, operand_walked, exp_walked, exps_walked, if_exp_walked, call_walked, spawned, spawn_walked, if_spawn_walked, target_walked, await_walked, ident_declared, port_declared, param_declared, pool_declared, start_broken, alias_declared, pool_walked, alias_walked, value_broken, params_opened, labelled, unlabelled, escape_walked, name_listed, target_assigned, code_opened, every_walked, stmt_walked, source_walked, value_walked, do_walked, block_walked, arm_walked, last_walked, range_walked, items_walked, arms_walked, blocks_walked, nodes_walked, fresh_walk, gathered, scopes_of}
 use Rattle.ceu_proper.proofs.Codes.{NoCode, NoCodeInSource, NoCodeInValue, NoCodeInDo, NoCodeInBlock, NoCodeInArm, NoCodeInLast, NoCodeInRange, NoCodeInItems, NoCodeInArms, NoCodeInBlocks, NoCodeInNodes, Outermost, OutermostNodes, OutermostBlock, CodesOutermost}
-use Rattle.ceu_proper.proofs.Steps.{Always, always_ok, always_err, always_checked, always_then, always_each, Deep, DeepOf, used_deep, named_deep, pool_deep, alias_deep, declared_deep, inside_deep, shown_deep, opened_deep, closed_deep}
+use Rattle.ceu_proper.proofs.Steps.{Always, always_ok, always_checked, always_then, always_each, Deep, DeepOf, used_deep, named_deep, pool_deep, alias_deep, declared_deep, inside_deep, shown_deep, opened_deep, closed_deep}
 
 -- ---- parts that open no block
 

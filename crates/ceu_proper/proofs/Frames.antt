@@ -1,5 +1,5 @@
 -- What a part without statements leaves as it is.
-use Rattle.std.proofs.Common.{◌≡◌, refl, sym, ap, ◌∙◌, ℕ, List, [], ◌∷◌, Option, Some, None}
+use Rattle.std.proofs.Common.{◌≡◌, refl, ◌∙◌, ℕ, List, [], ◌∷◌, Option, Some, None}
 use Rattle.ceu_tree.specs.declared.source.Ident.{Ident}
 use Rattle.ceu_tree.specs.declared.source.Label.{Label}
 use Rattle.ceu_tree.specs.declared.source.Label.TheVariants as label
@@ -13,7 +13,7 @@ use Rattle.ceu_expand.specs.Draft.{labelled, unlabelled, standing}
 use Rattle.ceu_expand.specs.Lists.{each}
 use Rattle.ceu_expand.specs.Uses.{used, if_used}
 use Rattle.ceu_expand.specs.Expressions.{typed, node_passed, row_passed, exp_passed, if_exp_passed}
-use Rattle.ceu_expand.specs.Parts.{target_passed, name_passed}
+use Rattle.ceu_expand.specs.Parts.{target_passed}
 
 -- a draft but for how much of the text is read, and for what declarations stand for
 abbrev pub frame : Draft → Draft

@@ -1,5 +1,5 @@
 -- What a part of a statement adds: its nodes and slots are counted from the draft before it, and the block around it stays.
-use Rattle.std.proofs.Common.{◌≡◌, refl, sym, ap, ◌∙◌, subst, ℕ, zero, suc, ◌+◌, arith, List, [], ◌∷◌, ◌++◌}
+use Rattle.std.proofs.Common.{◌≡◌, refl, sym, ap, ◌∙◌, subst, ℕ, ◌+◌, arith, List, [], ◌∷◌, ◌++◌}
 use Rattle.ceu_tree.specs.declared.kernel.KNode.{KNode}
 use Rattle.ceu_tree.specs.declared.kernel.KDecl.{KDecl}
 use Rattle.ceu_tree.specs.declared.kernel.KStmt.{KStmt}
@@ -8,7 +8,7 @@ use Rattle.ceu_tree.specs.Numbering.{range_of, stmt_nodes, stmt_slots, block_nod
 use Rattle.ceu_expand.specs.declared.draft.Draft.{Draft}
 use Rattle.ceu_expand.specs.Draft.{begun, hidden, placed, outside, opened, written, closed, block_of, around_block}
 use Rattle.ceu_expand.specs.Parts.{nothing_in}
-use Rattle.ceu_proper.proofs.Runs.{Runs, runs_append, runs_one, runs_range}
+use Rattle.ceu_proper.proofs.Runs.{Runs, runs_append, runs_range}
 use Rattle.ceu_proper.proofs.Frames.{frame}
 use Rattle.ceu_proper.proofs.Shapes.{nodes_of, slots_of, rolled_nodes, rolled_slots}
 

@@ -11,3 +11,6 @@ pub mod Steps
 pub mod Depths
 pub mod Good
 pub mod Shaping
+pub mod Below
+pub mod EventLaws
+pub mod Small

@@ -1,6 +1,5 @@
 -- The statements without blocks of their own.
-use Rattle.std.proofs.Common.{◌≡◌, refl, sym, ap, ◌∙◌, subst, ℕ, zero, suc, ◌+◌, arith, List, [], ◌∷◌, ◌++◌, Option, Some, None, Bool, true, false}
-use Rattle.ceu_base.specs.declared.kinds.Ty.{Ty}
+use Rattle.std.proofs.Common.{◌≡◌, refl, ◌∙◌, ℕ, arith, [], ◌∷◌, Option, Some, None, Bool, true, false}
 use Rattle.ceu_base.specs.declared.kinds.Pos.{Pos}
 use Rattle.ceu_tree.specs.declared.source.Ident.{Ident}
 use Rattle.ceu_tree.specs.declared.source.Call.{Call}
@@ -17,7 +16,7 @@ use Rattle.ceu_tree.specs.declared.kernel.KLoop.TheVariants as turns
 use Rattle.ceu_tree.specs.declared.kernel.KArm.{KArm'}
 use Rattle.ceu_tree.specs.declared.kernel.KStmt.{KStmt}
 use Rattle.ceu_tree.specs.declared.kernel.KStmt as kernel
-use Rattle.ceu_tree.specs.Numbering.{range_of, stmt_nodes, stmt_slots, arm_nodes, arm_slots, block_nodes, block_slots}
+use Rattle.ceu_tree.specs.Numbering.{stmt_nodes, stmt_slots, arm_nodes, arm_slots}
 use Rattle.ceu_scopes.specs.declared.known.Scopes.{Scopes}
 use Rattle.ceu_types.specs.declared.typing.Types.{Types}
 use Rattle.ceu_expand.specs.declared.around.Around.{Around}
@@ -25,12 +24,11 @@ use Rattle.ceu_expand.specs.declared.draft.Draft.{Draft}
 use Rattle.ceu_expand.specs.Draft.{begun, hidden, opened, placed, block_of, around_block, declared}
 use Rattle.ceu_expand.specs.Lists.{each, gathered}
 use Rattle.ceu_expand.specs.Uses.{names_output, use_number, used}
-use Rattle.ceu_expand.specs.Uses as uses
 use Rattle.ceu_expand.specs.Expressions.{constant, exp_passed, if_exp_passed, exp_written, if_exp_written}
 use Rattle.ceu_expand.specs.Parts.{simple, zeroed, nothing_in, assigned, sent, emitted, escaped, await_written, target_passed, target_awaited, broken_if, awaited_and_asked, awaited_until, code_awaited, awaited, spawned, started, alias_declared, pool_declared, killed}
 use Rattle.ceu_proper.proofs.Frames.{frame, frame_used, frame_exp, frame_if_exp, frame_each, frame_target}
 use Rattle.ceu_proper.proofs.Shapes.{if_nodes, if_slots}
-use Rattle.ceu_proper.proofs.Inside.{Inside, append_none, inside_same, inside_then, inside_hidden, inside_as, Wrote, wrote_same, wrote_then, wrote_stmt, block_inside, empty_inside}
+use Rattle.ceu_proper.proofs.Inside.{append_none, inside_same, inside_then, inside_hidden, inside_as, Wrote, wrote_same, wrote_then, wrote_stmt, block_inside, empty_inside}
 
 -- how many nodes and hidden slots an await takes
 abbrev pub await_nodes_in : Await → ℕ

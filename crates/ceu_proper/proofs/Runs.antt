@@ -1,5 +1,5 @@
 -- Numbers that are counted one after the other.
-use Rattle.std.proofs.Common.{◌≡◌, refl, sym, ap, ◌∙◌, subst, ℕ, zero, suc, ◌+◌, arith, eq-eqb, List, [], ◌∷◌, ◌++◌}
+use Rattle.std.proofs.Common.{◌≡◌, refl, ap, ◌∙◌, subst, ℕ, zero, suc, ◌+◌, length, arith, eq-eqb, List, [], ◌∷◌, ◌++◌}
 use Rattle.std.specs.Prelude.{IsTrue, ◌&&◌}
 use Rattle.ceu_tree.specs.Numbering.{range_of, counts_from}
 
@@ -22,3 +22,7 @@ runs_range (suc n) a = (refl, subst (λ m. Runs (a + 1) (range_of (a + 1) n) m) 
 pub runs_counts : (a : ℕ) (xs : List ℕ) (b : ℕ) → Runs a xs b → IsTrue (counts_from a xs)
 runs_counts a [] b h = refl
 runs_counts a (x ∷ xs) b h = ap (λ k. k && counts_from (a + 1) xs) (eq-eqb x a h.0) ∙ runs_counts (a + 1) xs b h.1
+
+pub runs_length : (a : ℕ) (xs : List ℕ) (b : ℕ) → Runs a xs b → b ≡ a + length xs
+runs_length a [] b h = omega (arith, h)
+runs_length a (x ∷ xs) b h = let i = runs_length (a + 1) xs b h.1 in omega (arith, i)

@@ -1,6 +1,5 @@
 -- The kernel of a program takes over positions, ranges and branches.
-use Rattle.std.proofs.Common.{◌≡◌, refl, sym, ap, ◌∙◌, subst, ℕ, suc, ◌+◌, ◌<◌, ◌≤◌, length, arith, List, [], ◌∷◌, ◌++◌, Option, Some, None, Bool, true, false}
-use Rattle.std.specs.Prelude.{⊤}
+use Rattle.std.proofs.Common.{◌≡◌, refl, subst, ℕ, ◌≤◌, length, arith, List, [], ◌∷◌, Option, Some, None, Bool, true, false}
 use Rattle.ceu_base.specs.declared.kinds.Ty.{Ty}
 use Rattle.ceu_base.specs.declared.kinds.Pos.{Pos}
 use Rattle.ceu_tree.specs.declared.source.Ident.{Ident}
@@ -27,7 +26,7 @@ use Rattle.ceu_tree.specs.declared.kernel.KKind.TheVariants as kind
 use Rattle.ceu_tree.specs.declared.kernel.KLoop.TheVariants as turns
 use Rattle.ceu_tree.specs.declared.kernel.ParKind.{ParKind}
 use Rattle.ceu_tree.specs.declared.kernel.ParKind.TheVariants as par
-use Rattle.ceu_tree.specs.declared.kernel.KArm.{KArm, KArm'}
+use Rattle.ceu_tree.specs.declared.kernel.KArm.{KArm'}
 use Rattle.ceu_tree.specs.declared.kernel.KBlock.{KBlock}
 use Rattle.ceu_tree.specs.declared.kernel.KStmt as kernel
 use Rattle.ceu_tree.specs.declared.kernel.KStmt.{KStmt}
@@ -35,14 +34,13 @@ use Rattle.ceu_scopes.specs.declared.known.Scopes.{Scopes}
 use Rattle.ceu_types.specs.declared.typing.Types.{Types}
 use Rattle.ceu_expand.specs.declared.around.Around.{Around}
 use Rattle.ceu_expand.specs.declared.draft.Draft.{Draft}
-use Rattle.ceu_expand.specs.Draft.{of_program, in_loop, in_do, nothing_written, begun, hidden, opened, placed, block_of, around_block, standing, declared, event_declared, input_declared, output_declared, own, entered, left, with_code, labelled, unlabelled}
-use Rattle.ceu_expand.specs.Lists.{each, gathered}
+use Rattle.ceu_expand.specs.Draft.{of_program, in_loop, in_do, nothing_written, begun, hidden, opened, block_of, around_block, standing, declared, event_declared, own, entered, left, with_code, labelled, unlabelled}
+use Rattle.ceu_expand.specs.Lists.{each}
 use Rattle.ceu_expand.specs.Uses.{names_output, use_number, variable, used, if_variable, if_used}
-use Rattle.ceu_expand.specs.Uses as uses
-use Rattle.ceu_expand.specs.Expressions.{constant, exp_passed, if_exp_passed, exp_written, if_exp_written}
-use Rattle.ceu_expand.specs.Parts.{simple, zeroed, nothing_in, assigned, sent, emitted, escaped, await_written, target_passed, target_awaited, broken_if, awaited_and_asked, awaited_until, code_awaited, awaited, spawned, started, alias_declared, pool_declared, killed, param_declared, name_passed}
+use Rattle.ceu_expand.specs.Expressions.{exp_passed, if_exp_passed, exp_written, if_exp_written}
+use Rattle.ceu_expand.specs.Parts.{simple, nothing_in, assigned, sent, emitted, escaped, await_written, target_passed, target_awaited, broken_if, awaited_and_asked, awaited_until, code_awaited, awaited, spawned, started, alias_declared, pool_declared, killed, param_declared, name_passed}
 use Rattle.ceu_expand.specs.Expansion.{row_blocks, par_hidden, par_slot, turns_written, turns_passed, range_hidden, range_written, range_passed, declared_in, code_begun, code_around, code_ended, stmt_written, source_written, value_written, do_written, ranged, every_written, every_passed, block_written, block_passed, arm_written, arm_passed, last_written, last_passed, nodes_written, items_written, arms_written, arms_passed, blocks_written, blocks_passed, counted, begun_program, kernel_of}
-use Rattle.ceu_proper.specs.Shaped.{AllOf, IsPlace, InRange, TurnsShaped, DeclShaped, ParShaped, StmtShaped, BlockShaped, ArmShaped, CodeShaped, EventShaped, KernelShaped, NamePlaced, ParamPlaced, StartPlaced, LimitInRange, Placed, SourcePlaced, ValuePlaced, DoPlaced, BlockPlaced, ArmPlaced, LastPlaced, RangePlaced, ItemsPlaced, ArmsPlaced, BlocksPlaced, NodesPlaced, TreePlaced}
+use Rattle.ceu_proper.specs.Shaped.{AllOf, IsPlace, InRange, TurnsShaped, ParShaped, StmtShaped, BlockShaped, ArmShaped, CodeShaped, KernelShaped, NamePlaced, ParamPlaced, StartPlaced, LimitInRange, Placed, SourcePlaced, ValuePlaced, DoPlaced, BlockPlaced, ArmPlaced, LastPlaced, RangePlaced, ItemsPlaced, ArmsPlaced, BlocksPlaced, NodesPlaced, TreePlaced}
 use Rattle.ceu_proper.proofs.Good.{Good, all_append, if_shaped, par_shaped, good_used, good_if_used, good_begun, good_hidden, good_standing, good_labelled, good_unlabelled, good_exp, good_if_exp, good_each, good_exps, good_target, good_declared, good_event, good_inputs, good_outputs, good_placed, good_opened, good_written, good_closed, good_empty, good_empty_closed}
 
 -- ---- statements without blocks of their own

@@ -1,5 +1,5 @@
 -- What holds of a walk through a program's names whenever it goes on.
-use Rattle.std.proofs.Common.{◌≡◌, refl, sym, ap, ◌∙◌, subst, ℕ, zero, suc, ◌+◌, ◌≤◌, length, arith, List, [], ◌∷◌, ◌++◌, Option, Some, None, Result, Ok, Err}
+use Rattle.std.proofs.Common.{◌≡◌, refl, sym, ap, ◌∙◌, subst, ℕ, suc, ◌≤◌, length, arith, List, [], ◌∷◌, ◌++◌, Option, Some, None, Result, Ok, Err}
 use Rattle.std.specs.Prelude.{⊤, if◌then◌else◌, Bool, true, false}
 use Rattle.ceu_base.specs.declared.kinds.Rule.{Rule}
 use Rattle.ceu_base.specs.declared.kinds.Rule.TheVariants.{N2, N3}
@@ -14,8 +14,8 @@ use Rattle.ceu_scopes.specs.declared.scope.Border.{Border}
 use Rattle.ceu_scopes.specs.declared.scope.Scope.{Scope}
 use Rattle.ceu_scopes.specs.declared.walk.Walk.{Walk}
 use Rattle.ceu_scopes.specs.Shown.{rest_of}
-use Rattle.ceu_scopes.specs.Walk.{Broken, Step, ◌>>=◌, each, opened, closed, shown, with_name}
-use Rattle.ceu_scopes.specs.Rules.{checked, resolved, asked, noted, used, named, and_on, pool_used, alias_used, set_broken, pool_broken, inside_broken, is_taken, declared}
+use Rattle.ceu_scopes.specs.Walk.{Broken, ◌>>=◌, each, opened, closed, shown, with_name}
+use Rattle.ceu_scopes.specs.Rules.{checked, resolved, noted, used, named, and_on, pool_used, alias_used, inside_broken, is_taken, declared}
 
 module _ {A : Type 0} where
   -- where the walk goes on, this holds

@@ -1,5 +1,5 @@
 -- The whole program: its text, and behind it its codes.
-use Rattle.std.proofs.Common.{◌≡◌, refl, sym, ap, ◌∙◌, subst, ℕ, zero, suc, ◌+◌, length, arith, List, [], ◌∷◌, ◌++◌}
+use Rattle.std.proofs.Common.{◌≡◌, refl, sym, ap, ◌∙◌, subst, ℕ, ◌+◌, length, arith, List, [], ◌∷◌, ◌++◌}
 use Rattle.std.specs.Prelude.{Bool, IsTrue, ◌&&◌}
 use Rattle.ceu_base.specs.declared.kinds.Ty.{Ty}
 use Rattle.ceu_base.specs.declared.kinds.Pos.{Pos}
@@ -22,11 +22,11 @@ use Rattle.ceu_expand.specs.declared.draft.Draft.{Draft}
 use Rattle.ceu_expand.specs.Draft.{of_program, opened, outside, written, closed, block_of, around_block, standing, entered, left, with_code, declared, nothing_written}
 use Rattle.ceu_expand.specs.Lists.{each}
 use Rattle.ceu_expand.specs.Parts.{param_declared}
-use Rattle.ceu_expand.specs.Expansion.{declared_by, declared_in, code_begun, code_around, code_ended, stmt_written, nodes_written, block_written, block_passed, counted, begun_program, kernel_of}
-use Rattle.ceu_proper.proofs.Codes.{NoCode, NoCodeInBlock, Outermost, OutermostNodes, OutermostBlock, CodesOutermost}
+use Rattle.ceu_expand.specs.Expansion.{declared_by, declared_in, code_begun, code_around, code_ended, stmt_written, nodes_written, block_written, block_passed, counted, kernel_of}
+use Rattle.ceu_proper.proofs.Codes.{NoCodeInBlock, Outermost, OutermostNodes, OutermostBlock, CodesOutermost}
 use Rattle.ceu_proper.proofs.Runs.{Runs, runs_append, runs_counts}
 use Rattle.ceu_proper.proofs.Shapes.{nodes_of, slots_of, rolled_nodes, rolled_slots}
-use Rattle.ceu_proper.proofs.Inside.{Inside, Wrote, append_none, append_assoc, nodes_append, slots_append, decl_slots_append}
+use Rattle.ceu_proper.proofs.Inside.{Wrote, append_none, append_assoc, nodes_append, slots_append, decl_slots_append}
 use Rattle.ceu_proper.proofs.Counts.{stmt_adds, stmt_hides, nodes_add, nodes_hide}
 use Rattle.ceu_proper.proofs.Wrote.{stmt_wrote, block_in}
 
@@ -110,17 +110,17 @@ texts_then {d = d} {e = e} {f = f} {m = m} {n = n} {i = i} {j = j} {u = u} {v = 
 -- ---- the parameters of code
 
 -- a draft but for its declarations
-bare : Draft → Draft
+unfoldable pub bare : Draft → Draft
 bare d = record d { numbers = []; parts = record d.parts { decls = []; slot = 0 } }
 
-record Declared (count : ℕ) (before after : Draft) : Type 0 where
-  stays : bare after ≡ bare before
-  decls : List KDecl
-  decls_is : after.parts.decls ≡ before.parts.decls ++ decls
-  slot_is : after.parts.slot ≡ before.parts.slot + count
-  decl_runs : Runs before.parts.slot (decl_slots decls) after.parts.slot
+pub record Declared (count : ℕ) (before after : Draft) : Type 0 where
+  pub stays : bare after ≡ bare before
+  pub decls : List KDecl
+  pub decls_is : after.parts.decls ≡ before.parts.decls ++ decls
+  pub slot_is : after.parts.slot ≡ before.parts.slot + count
+  pub decl_runs : Runs before.parts.slot (decl_slots decls) after.parts.slot
 
-params_are : (ps : List Param) (d : Draft) → Declared (length ps) d (each param_declared ps d)
+pub params_are : (ps : List Param) (d : Draft) → Declared (length ps) d (each param_declared ps d)
 unfolding each bare declared
 params_are [] d = record { stays = refl; decls = []; decls_is = append_none d.parts.decls; slot_is = omega arith; decl_runs = refl }
 params_are (x ∷ xs) d =
@@ -186,14 +186,14 @@ module _ (s : Scopes) (t : Types) where
   nodes_texts a (more_of-Node p st rest) h d = texts_then (stmt_texts a p st h.0 d) (nodes_texts a rest h.1 (stmt_written s t a p st d))
 
   -- the text and its codes, where these are counted behind it
-  row_numbered : {n : _} (r : Row_of-Node n) → OutermostNodes r → (m k : ℕ) →
+  pub row_runs : {n : _} (r : Row_of-Node n) → OutermostNodes r → (m k : ℕ) →
       m ≡ nodes_add r + 1 → k ≡ declared_in r + nodes_hide r →
       let f = nodes_written s t of_program r in
       let d = nothing_written m k in
-      IsTrue (counts_from 0 (block_nodes (block_of (declared_in r) f d) ++ codes_nodes (around_block (declared_in r) f d).codes)) ×
-      IsTrue (counts_from 0 (block_slots (block_of (declared_in r) f d) ++ codes_slots (around_block (declared_in r) f d).codes))
+      Runs 0 (block_nodes (block_of (declared_in r) f d) ++ codes_nodes (around_block (declared_in r) f d).codes) (around_block (declared_in r) f d).other_node ×
+      Runs 0 (block_slots (block_of (declared_in r) f d) ++ codes_slots (around_block (declared_in r) f d).codes) (around_block (declared_in r) f d).other_slot
   unfolding nothing_written opened outside written closed
-  row_numbered r h m k hm hk =
+  row_runs r h m k hm hk =
       let d : Draft = nothing_written m k in
       let e : Draft = nodes_written s t of_program r (opened (declared_in r) d) in
       let texts = nodes_texts of_program r h (opened (declared_in r) d) in
@@ -210,11 +210,19 @@ module _ (s : Scopes) (t : Types) where
       (subst (λ x. Runs (0 + declared_in r) (slots_of texts.list) x) slot texts.slots)) in
       let code_nodes : Runs m (codes_nodes e.codes) e.other_node = subst (λ x. Runs m (codes_nodes x) e.other_node) (sym texts.codes_is) texts.code_nodes in
       let code_slots : Runs k (codes_slots e.codes) e.other_slot = subst (λ x. Runs k (codes_slots x) e.other_slot) (sym texts.codes_is) texts.code_slots in (
-        runs_counts 0 _ e.other_node (runs_append 0 _ m (codes_nodes e.codes) e.other_node nodes code_nodes),
-        runs_counts 0 _ e.other_slot (runs_append 0 _ k (codes_slots e.codes) e.other_slot slots code_slots),
+        runs_append 0 _ m (codes_nodes e.codes) e.other_node nodes code_nodes,
+        runs_append 0 _ k (codes_slots e.codes) e.other_slot slots code_slots,
       )
 
-  row_counted : {n : _} (r : Row_of-Node n) → OutermostNodes r →
+  row_numbered : {n : _} (r : Row_of-Node n) → OutermostNodes r → (m k : ℕ) →
+      m ≡ nodes_add r + 1 → k ≡ declared_in r + nodes_hide r →
+      let f = nodes_written s t of_program r in
+      let d = nothing_written m k in
+      IsTrue (counts_from 0 (block_nodes (block_of (declared_in r) f d) ++ codes_nodes (around_block (declared_in r) f d).codes)) ×
+      IsTrue (counts_from 0 (block_slots (block_of (declared_in r) f d) ++ codes_slots (around_block (declared_in r) f d).codes))
+  row_numbered r h m k hm hk = let runs = row_runs r h m k hm hk in (runs_counts 0 _ _ runs.0, runs_counts 0 _ _ runs.1)
+
+  pub row_counted : {n : _} (r : Row_of-Node n) → OutermostNodes r →
       let d = around_block (declared_in r) (nodes_written s t of_program r) (nothing_written 0 0) in
       (d.node ≡ nodes_add r + 1) × (d.slot ≡ declared_in r + nodes_hide r)
   unfolding nothing_written opened outside written closed

@@ -1,5 +1,5 @@
 -- Each statement adds nodes and slots that are counted one after the other.
-use Rattle.std.proofs.Common.{◌≡◌, refl, sym, ap, ◌∙◌, subst, ℕ, zero, suc, ◌+◌, length, arith, List, [], ◌∷◌, ◌++◌, Option, Some, None}
+use Rattle.std.proofs.Common.{◌≡◌, refl, sym, ap, ◌∙◌, subst, ℕ, ◌+◌, length, arith, [], ◌∷◌, ◌++◌, Option, Some, None}
 use Rattle.ceu_base.specs.declared.kinds.Ty.{Ty}
 use Rattle.ceu_base.specs.declared.kinds.Pos.{Pos}
 use Rattle.ceu_tree.specs.declared.source.Ident.{Ident}
@@ -20,16 +20,16 @@ use Rattle.ceu_tree.specs.declared.kernel.KLoop.TheVariants as turns
 use Rattle.ceu_tree.specs.declared.kernel.ParKind.{ParKind}
 use Rattle.ceu_tree.specs.declared.kernel.ParKind.TheVariants as par
 use Rattle.ceu_tree.specs.declared.kernel.KStmt as kernel
-use Rattle.ceu_tree.specs.Numbering.{range_of, loop_slots, par_slots, stmt_nodes, stmt_slots, block_nodes, block_slots, arm_nodes, arm_slots}
+use Rattle.ceu_tree.specs.Numbering.{loop_slots, par_slots, stmt_nodes, stmt_slots, block_nodes, block_slots, arm_nodes, arm_slots}
 use Rattle.ceu_scopes.specs.declared.known.Scopes.{Scopes}
 use Rattle.ceu_types.specs.declared.typing.Types.{Types}
 use Rattle.ceu_expand.specs.declared.around.Around.{Around}
 use Rattle.ceu_expand.specs.declared.draft.Draft.{Draft}
-use Rattle.ceu_expand.specs.Draft.{in_loop, in_do, begun, hidden, opened, placed, block_of, around_block, standing, declared, event_declared, input_declared, output_declared, own, labelled, unlabelled}
+use Rattle.ceu_expand.specs.Draft.{in_loop, in_do, begun, hidden, opened, block_of, around_block, declared, event_declared, input_declared, output_declared, own, labelled, unlabelled}
 use Rattle.ceu_expand.specs.Lists.{each}
 use Rattle.ceu_expand.specs.Uses.{variable, used, if_variable, if_used}
-use Rattle.ceu_expand.specs.Expressions.{exp_passed, exp_written}
-use Rattle.ceu_expand.specs.Parts.{simple, nothing_in, target_awaited, name_passed}
+use Rattle.ceu_expand.specs.Expressions.{exp_passed}
+use Rattle.ceu_expand.specs.Parts.{target_awaited, name_passed}
 use Rattle.ceu_expand.specs.Expansion.{row_items, row_blocks, declared_by, declared_in, par_hidden, par_slot, turns_written, turns_passed, range_hidden, range_written, range_passed, stmt_written, source_written, value_written, do_written, ranged, every_written, every_passed, block_written, block_passed, arm_written, arm_passed, last_written, last_passed, nodes_written, items_written, arms_written, arms_passed, blocks_written, blocks_passed}
 use Rattle.ceu_proper.proofs.Codes.{NoCode, NoCodeInSource, NoCodeInValue, NoCodeInDo, NoCodeInBlock, NoCodeInArm, NoCodeInLast, NoCodeInRange, NoCodeInItems, NoCodeInArms, NoCodeInBlocks, NoCodeInNodes}
 use Rattle.ceu_proper.proofs.Counts.{turns_hide, stmt_adds, source_adds, value_adds, do_adds, range_adds, every_adds, block_adds, arm_adds, last_adds, nodes_add, items_add, arms_add, blocks_add, stmt_hides, source_hides, value_hides, do_hides, range_hides, every_hides, block_hides, arm_hides, last_hides, nodes_hide, items_hide, arms_hide, blocks_hide}

@@ -1,2 +1,4 @@
 pub mod Shaped
+pub mod Events
+pub mod Sizes
 pub mod Laws

@@ -1,7 +1,7 @@
 //! Laws of the kernel of a program, each the contract of a function with an empty body.
 #![tactic(auto)]
 
-ghost use Rattle.ceu_proper.specs.Laws.{KernelsNumbered, KernelsShaped};
+ghost use Rattle.ceu_proper.specs.Laws.{KernelsEvents, KernelsNumbered, KernelsShaped, KernelsSmall};
 
 /// In the kernel of a program that breaks no rule on names, nodes and slots are counted from 0 in pre-order over the program's text
 /// and then each code, its parameters before its body.
@@ -13,4 +13,14 @@ pub fn kernels_numbered()
 /// least, so it is in the kernel; a par that isn't `par/and` has the slot 0 there.
 pub fn kernels_shaped()
     ensures { KernelsShaped }
+{}
+
+/// In the kernel of a program that breaks no rule on names, each event that belongs to code names one of the kernel's codes.
+pub fn kernels_events()
+    ensures { KernelsEvents }
+{}
+
+/// The kernel of a program that breaks no rule on names has at most seven nodes for each statement, variable and block of its tree.
+pub fn kernels_small()
+    ensures { KernelsSmall }
 {}
