@@ -128,13 +128,14 @@ module _ (S : Config → Type 0) (K : Kernel) (lines : List (Line Command)) (byt
         );
   }
 
-  cut_plays : (z : Option (List ℕ)) → Cut K b.config all outputs lines (Near bytes left) y z → StopsReading K lines all outputs x z × TakesLittle K lines bytes left
+  cut_plays : (z : Option (List ℕ)) → Cut K b.config all outputs lines (Near bytes left) y z → StopsReading K lines bytes left all outputs x z × TakesLittle K lines bytes left
   cut_plays z o = (
     record {
       before = o.read;
       behind = o.rest;
       lines_are = o.lines_are;
       good = o.good;
+      taken = o.end;
       bound = b.bound + o.bound;
       waits = λ n h. ap status_of (run_at (commands_of o.read) n (omega arith)) ∙ o.waits n (omega arith);
       text = b.shown ++ o.shown;
@@ -146,7 +147,7 @@ module _ (S : Config → Type 0) (K : Kernel) (lines : List (Line Command)) (byt
 
   pub stop_plays : (s : Stop) (result : Played) (z w : Option (List ℕ)) (q q' : ℕ) → Stops s K b.config all outputs lines (Near bytes left) y z → Finishes s result z w q q' → Plays result K lines bytes left all outputs x w
   stop_plays Read result z w q q' stops f = subst (λ (p : Played). Plays p K lines bytes left all outputs x w) (sym f.0)
-      (subst (λ (t : Option (List ℕ)). StopsReading K lines all outputs x t × TakesLittle K lines bytes left) (sym f.1) (cut_plays z stops))
+      (subst (λ (t : Option (List ℕ)). StopsReading K lines bytes left all outputs x t × TakesLittle K lines bytes left) (sym f.1) (cut_plays z stops))
   stop_plays Write result z w q q' stops f = subst (λ (p : Played). Plays p K lines bytes left all outputs x w) (sym f.0)
       (subst (λ (t : Option (List ℕ)). StopsWriting K lines bytes left all outputs x t) (sym f.1) (broken_plays z stops))
   stop_plays End result z w q q' stops f = ends_plays (status_line Waits) played.Done z stops result w q q' (λ is. is) f

@@ -314,6 +314,7 @@ module _ (S : Config → Type 0) (K : Kernel) (c : Config) (all : Bool) (outputs
         shown = so_far.shown;
         texts = skipped_texts e.skips;
         written = so_far.written;
+        end = omega (arith, skipped_length e.skips, e.counted);
         before = last_skipped e.skips;
         behind = parts.0;
         parts = parts.1;

@@ -115,6 +115,7 @@ cut_near K c all outputs lines near n h h' is o = record {
   shown = o.shown;
   texts = o.texts;
   written = o.written;
+  end = subst near (sym o.end) is;
   before = o.before;
   behind = o.behind;
   parts = o.parts;

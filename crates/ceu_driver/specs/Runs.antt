@@ -1,5 +1,5 @@
 -- What a run of a program on a script comes to, of which the source's bytes are told.
-use Rattle.std.specs.Prelude.{◌≡◌, ◌⊎◌, ℕ, ◌+◌, ◌<◌, ◌≤◌, Bool, List, [], ◌++◌, length, take, Option, Some, None, nat_le}
+use Rattle.std.specs.Prelude.{◌≡◌, ◌⊎◌, ℕ, ◌+◌, ◌-◌, ◌<◌, ◌≤◌, Bool, List, [], ◌++◌, length, take, Option, Some, None, nat_le}
 use Rattle.ceu_base.specs.declared.kinds.Port.{Port}
 use Rattle.ceu_io.specs.Bytes.{Appends}
 use Rattle.ceu_io.specs.Counts.{Rose}
@@ -56,11 +56,13 @@ pub record Whole (answer : Played) (K : Kernel) (lines : List (Line Command)) (a
   pub ends : (n : ℕ) → bound ≤ n → run_ending K n lines ≡ Some answer
 
 -- The source failed behind some whole lines. None of them is bad, the program waits after them, and their text is written, without a status line.
-pub record StopsReading (K : Kernel) (lines : List (Line Command)) (all : Bool) (outputs : List Port) (held now : Option (List ℕ)) : Type 0 where
+pub record StopsReading (K : Kernel) (lines : List (Line Command)) (bytes : List ℕ) (left : ℕ) (all : Bool) (outputs : List Port) (held now : Option (List ℕ)) : Type 0 where
   pub before : List (Line Command)
   pub behind : List (Line Command)
   pub lines_are : lines ≡ before ++ behind
   pub good : IsGood before
+  -- at most 4,096 bytes were taken from the start of the last of these lines
+  pub taken : length bytes ≤ left + (line_start (length before - 1) (script_of bytes).bytes + 4096)
   pub bound : ℕ
   pub waits : (n : ℕ) → bound ≤ n → status_of (run K n (commands_of before)) ≡ Waits
   pub text : List ℕ
@@ -79,7 +81,7 @@ pub record StopsWriting (K : Kernel) (lines : List (Line Command)) (bytes : List
       × ((before ≡ []) ⊎ (length (shown_text all outputs K n (commands_of before)) ≤ m))
 
 abbrev pub Plays : Played → Kernel → List (Line Command) → (bytes : List ℕ) → (left : ℕ) → Bool → List Port → (held now : Option (List ℕ)) → Type 0
-Plays Read K lines bytes left all outputs held now = StopsReading K lines all outputs held now × TakesLittle K lines bytes left
+Plays Read K lines bytes left all outputs held now = StopsReading K lines bytes left all outputs held now × TakesLittle K lines bytes left
 Plays Write K lines bytes left all outputs held now = StopsWriting K lines bytes left all outputs held now
 Plays Done K lines bytes left all outputs held now = Whole Done K lines all outputs held now × TakesLittle K lines bytes left
 Plays Fault K lines bytes left all outputs held now = Whole Fault K lines all outputs held now × TakesLittle K lines bytes left

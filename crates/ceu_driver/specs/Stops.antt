@@ -1,5 +1,5 @@
 -- What the lines of a script come to, from a configuration that waits.
-use Rattle.std.specs.Prelude.{◌≡◌, ◌⊎◌, ℕ, ◌+◌, ◌<◌, ◌≤◌, Bool, List, [], ◌++◌, length, take, Option, Some}
+use Rattle.std.specs.Prelude.{◌≡◌, ◌⊎◌, ℕ, ◌+◌, ◌-◌, ◌<◌, ◌≤◌, Bool, List, [], ◌++◌, length, take, Option, Some}
 use Rattle.ceu_base.specs.declared.kinds.Port.{Port}
 use Rattle.ceu_io.specs.Bytes.{Appends, AppendsProperFront}
 use Rattle.ceu_io.specs.Counts.{Rose}
@@ -54,6 +54,7 @@ pub record Cut (K : Kernel) (c : Config) (all : Bool) (outputs : List Port) (lin
   pub shown : List ℕ
   pub texts : (n : ℕ) → bound ≤ n → commands_text all outputs K n (commands_of read) c ≡ shown
   pub written : Appends shown held now
+  pub end : near (length read - 1)  -- the last of these lines
   pub before : List (Line Command)
   pub behind : List (Line Command)
   pub parts : lines ≡ before ++ behind
