@@ -5,3 +5,4 @@ pub mod Lists
 pub mod Opcodes
 pub mod Chains
 pub mod Scans
+pub mod Steps

@@ -16,5 +16,6 @@ mod pools;
 mod slots;
 mod spawns;
 mod state;
+mod stepping;
 mod trails;
 mod words;
