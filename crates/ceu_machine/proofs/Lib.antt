@@ -6,3 +6,5 @@ pub mod Opcodes
 pub mod Chains
 pub mod Scans
 pub mod Steps
+pub mod Ticks
+pub mod Turns
