@@ -1,6 +1,6 @@
 -- A turn: instruction by instruction, with the aborts in it. An abort visits the gates of a range that aren't free, from the last to the first in
 -- order; each becomes free, and a finalizer runs.
-use Rattle.std.specs.Prelude.{◌≡◌, ℕ, suc, zero, ◌+◌, ◌^◌, nat_lt, nat_le, ◌==◌, Bool, true, false, if◌then◌else◌, List, [], ◌∷◌, ◌++◌, Option, Some, None, slice_get}
+use Rattle.std.specs.Prelude.{ℕ, suc, zero, ◌+◌, ◌^◌, nat_lt, nat_le, ◌==◌, Bool, true, false, if◌then◌else◌, List, [], ◌∷◌, ◌++◌, Option, Some, None, slice_get}
 use Rattle.ceu_base.specs.declared.kinds.Fault.{Fault}
 use Rattle.ceu_base.specs.declared.kinds.Pos.{Pos}
 use Rattle.ceu_base.specs.declared.kinds.Mark.{Mark}
@@ -52,7 +52,7 @@ abbrev pub failing : Image → Fault → Pos → Registers → Machine → State
 failing image f p r m =
     if nat_lt r.own image.gates
     then Sweeping (record { from = 0; count = image.gates; after = Fails f p; trail = record r { depth = 0 } })
-      (rewritten (gate_changed image (kept forever r) r.own (with_state faulted m.bytes)) m)
+    (rewritten (gate_changed image (kept forever r) r.own (with_state faulted m.bytes)) m)
     else Stuck
 
 -- r has the offset behind the instruction

@@ -1,5 +1,5 @@
 -- A turn so far: its marks went to the sink, and what is left of it is the definition's turn from here on.
-use Rattle.std.proofs.Common.{◌≡◌, ℕ, ◌<◌, Bool, true, false, List, [], ◌∷◌, ◌++◌, refl, sym, ap, ◌∙◌, subst, ◌⊎◌, inl, inr, ⊎_elim, append_assoc, arith}
+use Rattle.std.proofs.Common.{◌≡◌, ℕ, ◌<◌, true, false, List, [], ◌∷◌, ◌++◌, refl, sym, ap, ◌∙◌, subst, inl, inr, ⊎_elim}
 use Rattle.std.specs.Prelude.{Result, Ok, Err, OnErr}
 use Rattle.std.proofs.lemmas.List.{append-nil}
 use Rattle.ceu_base.specs.declared.kinds.Mark.{Mark}
@@ -16,7 +16,6 @@ use Rattle.ceu_machine.specs.States.{plain, state_of, marked, IsAllowed}
 use Rattle.ceu_machine.specs.Turning as spec
 use Rattle.ceu_machine.specs.Turning.{Outcome, marks_in, outcome_of}
 use Rattle.ceu_machine.proofs.Ticks.{left, left_next, left_marked, ticks_off, ticks_next, ticks_marked, marked_twice, over_off, unmarked_over, next_allowed}
-use Rattle.ceu_machine.proofs.Steps.{marked_nothing}
 
 -- ---- marks that a sink noted, one list after the other
 

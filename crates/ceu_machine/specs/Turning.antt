@@ -1,7 +1,5 @@
 -- How a turn came out.
-use Rattle.std.specs.Prelude.{◌≡◌, ℕ, Bool, true, false, List, [], ◌++◌}
-use Rattle.ceu_base.specs.declared.kinds.Fault.{Fault}
-use Rattle.ceu_base.specs.declared.kinds.Pos.{Pos}
+use Rattle.std.specs.Prelude.{◌≡◌, ℕ, Bool, true, false, List, []}
 use Rattle.ceu_base.specs.declared.kinds.Mark.{Mark}
 use Rattle.ceu_code.specs.declared.image.Image.{Image}
 use Rattle.ceu_mem.specs.Memory.{Space}
@@ -12,7 +10,6 @@ use Rattle.ceu_machine.specs.declared.state.State as program
 use Rattle.ceu_machine.specs.declared.state.State.TheVariants as state
 use Rattle.ceu_machine.specs.declared.turning.Turned.{Turned}
 use Rattle.ceu_machine.specs.declared.turning.Turned.TheVariants.{Paused, Ended, Faulted}
-use Rattle.ceu_machine.specs.Noting.{Noted}
 
 -- The memory is a machine's of the image, and the turn of this gate does nothing that isn't allowed, and ends.
 pub record IsReady (image : Image) (mem : Space) (gate : ℕ) : Type 0 where
