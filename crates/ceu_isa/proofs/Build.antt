@@ -1,5 +1,5 @@
 -- Small words to write an image down, and what its runs are computed with.
-use Rattle.std.proofs.Common.{ℕ, ℤ, Bool, true, false, List, [], ◌∷◌}
+use Rattle.std.proofs.Common.{ℕ, ℤ, Bool, true, false, List}
 use Rattle.std.specs.List.{filter}
 use Rattle.ceu_base.specs.declared.kinds.Ty.{Ty}
 use Rattle.ceu_base.specs.declared.kinds.Pos.{Pos}

@@ -1,12 +1,12 @@
 -- Small images, assembled by hand, whose runs are computed.
-use Rattle.std.proofs.Common.{◌≡◌, refl, ℕ, pos, negsuc, List, [], ◌∷◌, codes}
+use Rattle.std.proofs.Common.{◌≡◌, refl, pos, negsuc, [], ◌∷◌, codes}
 use Rattle.ceu_base.specs.declared.kinds.Ty.TheVariants as ty
 use Rattle.ceu_base.specs.declared.kinds.Fault.TheVariants.{DivZero}
 use Rattle.ceu_base.specs.declared.kinds.Mark.TheVariants.{Output, Resume, Push, Registered, Ran}
 use Rattle.ceu_code.specs.declared.image.Image.{Image}
 use Rattle.ceu_tree.specs.declared.command.Command.TheVariants.{Input, Advance, Idle}
 use Rattle.ceu_isa.specs.Commands.{run}
-use Rattle.ceu_isa.proofs.Build.{at, port, row, image, shown, outputs, Ending, With, Still, By, computed}
+use Rattle.ceu_isa.proofs.Build.{at, port, row, image, shown, outputs, With, Still, By, computed}
 
 -- escape 1;
 escapes : Image

@@ -6,8 +6,6 @@ use Rattle.ceu_base.specs.declared.kinds.Op1.{Op1}
 use Rattle.ceu_base.specs.declared.kinds.Op2.{Op2}
 use Rattle.ceu_base.specs.declared.kinds.Fault.{Fault}
 use Rattle.ceu_base.specs.declared.kinds.Pos.{Pos}
-use Rattle.ceu_base.specs.declared.kinds.Port.{Port}
-use Rattle.ceu_base.specs.declared.kinds.Mark.{Mark}
 use Rattle.ceu_base.specs.declared.kinds.Mark.TheVariants.{Output}
 use Rattle.ceu_base.specs.Values.{is_value, same, wrapped, applied1, applied2, takes1, takes2, right_type}
 use Rattle.ceu_code.specs.declared.image.Image.{Image}
@@ -17,7 +15,7 @@ use Rattle.ceu_mem.specs.Memory.{value_at}
 use Rattle.ceu_isa.specs.declared.registers.Registers.{Registers}
 use Rattle.ceu_isa.specs.Layout.{cell_at, scratch_at, with_scratch}
 use Rattle.ceu_isa.specs.Fetching.{cell_type}
-use Rattle.ceu_isa.specs.Effects.{Effect, Wrong, Goes, Faults, provided, for_some}
+use Rattle.ceu_isa.specs.Effects.{Effect, Goes, Faults, provided, for_some}
 
 -- ---- popping and pushing
 

@@ -1,7 +1,5 @@
 -- Boot, inputs, the clock, idle turns, and runs over a list of commands.
-use Rattle.std.specs.Prelude.{ℕ, suc, zero, ◌+◌, ◌-◌, ◌*◌, ℤ, pos, nat_lt, nat_le, ◌==◌, Bool, true, false, ◌&&◌, if◌then◌else◌, min, List, [], ◌∷◌, replicate, Option, Some, None}
-use Rattle.ceu_base.specs.declared.kinds.Fault.{Fault}
-use Rattle.ceu_base.specs.declared.kinds.Pos.{Pos}
+use Rattle.std.specs.Prelude.{ℕ, suc, zero, ◌+◌, ◌-◌, ℤ, nat_lt, nat_le, ◌==◌, Bool, true, false, ◌&&◌, if◌then◌else◌, min, List, [], ◌∷◌, replicate, Option, Some, None}
 use Rattle.ceu_base.specs.declared.kinds.Mark.{Mark}
 use Rattle.ceu_code.specs.declared.image.Image.{Image}
 use Rattle.ceu_code.specs.Instructions.{cell}
@@ -10,7 +8,7 @@ use Rattle.ceu_tree.specs.declared.command.Command.{Command}
 use Rattle.ceu_tree.specs.declared.command.Command.TheVariants.{Input, Advance, Idle}
 use Rattle.ceu_isa.specs.Layout.{slots_at, end_of, gate_of, gate_changed, each_gate, gates_from, can_run, on_input, on_time, served, unserved, is_unserved}
 use Rattle.ceu_isa.specs.Order.{Choice, Nowhere, Unclear, Chosen, first_of}
-use Rattle.ceu_isa.specs.Turns.{Machine, rewritten, State, Stuck, Trail, Sweeping, Finalizer, Paused, Ended, Faulted, turned}
+use Rattle.ceu_isa.specs.Turns.{Machine, rewritten, State, Paused, Ended, Faulted, turned}
 use Rattle.ceu_isa.specs.Reactions.{Config, Lost, Waits, HasEnded, HasFaulted, reacts, value_of_end}
 
 -- ---- boot

@@ -1,5 +1,5 @@
 -- The instruction at a code offset: each opcode has a reader of the operands behind it. This is the other direction of the spelling.
-use Rattle.std.specs.Prelude.{ℕ, suc, zero, ◌+◌, ◌^◌, ℤ, Bool, ◌&&◌, nat_le, nat_lt, ◌==◌, if◌then◌else◌, List, [], ◌∷◌, ◌++◌, Option, Some, None, option_and_then, slice_get, slice_index, length}
+use Rattle.std.specs.Prelude.{ℕ, suc, zero, ◌+◌, ℤ, nat_le, if◌then◌else◌, List, [], ◌∷◌, ◌++◌, Option, Some, None, option_and_then, slice_get, length}
 use Rattle.std.specs.Option.{option_map}
 use Rattle.ceu_base.specs.Values.{is_value, is_signed}
 use Rattle.ceu_base.specs.declared.kinds.Ty.{Ty}

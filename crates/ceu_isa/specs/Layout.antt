@@ -1,5 +1,5 @@
 -- Where the parts of the machine's memory lie (this project's own): a header of 16 bytes, the evaluation cells, the gates, and the slots.
-use Rattle.std.specs.Prelude.{ℕ, suc, zero, ◌+◌, ◌*◌, ◌==◌, nat_le, nat_lt, Bool, true, false, ◌&&◌, ◌||◌, not, List, [], ◌∷◌}
+use Rattle.std.specs.Prelude.{ℕ, suc, zero, ◌+◌, ◌*◌, ◌==◌, nat_le, Bool, true, false, ◌&&◌, not, List, [], ◌∷◌}
 use Rattle.ceu_code.specs.declared.image.Image.{Image}
 use Rattle.ceu_mem.specs.declared.gate.Gate.{Gate}
 use Rattle.ceu_mem.specs.Bytes.{number_at, with_number}
@@ -10,12 +10,16 @@ use Rattle.ceu_mem.specs.Memory.{gate_at, with_gate}
 -- the state: fresh, waiting, reacting, ended, faulted
 abbrev pub fresh : ℕ
 fresh = 0
+
 abbrev pub waiting : ℕ
 waiting = 1
+
 abbrev pub reacting : ℕ
 reacting = 2
+
 abbrev pub ended : ℕ
 ended = 3
+
 abbrev pub faulted : ℕ
 faulted = 4
 
@@ -80,20 +84,28 @@ gate_changed image f g bytes = gate_put image (f (gate_of image bytes g)) g byte
 
 abbrev pub free : ℕ
 free = 0
+
 abbrev pub can_run : ℕ
 can_run = 1
+
 abbrev pub on_input : ℕ
 on_input = 2
+
 abbrev pub on_time : ℕ
 on_time = 3
+
 abbrev pub on_event : ℕ
 on_event = 4
+
 abbrev pub forever : ℕ
 forever = 5
+
 abbrev pub unserved : ℕ
 unserved = 6
+
 abbrev pub served : ℕ
 served = 7
+
 abbrev pub finalizer : ℕ
 finalizer = 8
 

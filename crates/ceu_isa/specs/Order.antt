@@ -1,10 +1,9 @@
 -- The order of gates (this project's own). The chain of a gate is the list of the instances that its frame lies in, the outermost first. Of two
 -- gates the one with the older instance goes first, where their chains first differ by two instances of one pool; else the one with the lower number.
-use Rattle.std.specs.Prelude.{ℕ, suc, zero, ◌+◌, ◌-◌, nat_lt, nat_le, ◌==◌, not, Bool, true, false, ◌&&◌, ◌||◌, if◌then◌else◌, List, [], ◌∷◌, ◌++◌, Option, Some, None}
+use Rattle.std.specs.Prelude.{ℕ, suc, zero, ◌-◌, nat_lt, nat_le, ◌==◌, not, Bool, true, false, ◌&&◌, ◌||◌, if◌then◌else◌, List, [], ◌∷◌, ◌++◌, Option, Some, None}
 use Rattle.std.specs.List.{list_all}
 use Rattle.std.specs.Option.{option_map}
 use Rattle.ceu_code.specs.declared.image.Image.{Image}
-use Rattle.ceu_mem.specs.declared.gate.Gate.{Gate}
 use Rattle.ceu_mem.specs.Bytes.{number_at}
 use Rattle.ceu_isa.specs.Layout.{slots_at, in_slots, gate_of}
 use Rattle.ceu_isa.specs.Pools.{return_of, outer_frame}

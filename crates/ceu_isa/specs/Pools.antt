@@ -1,12 +1,10 @@
 -- Awaited code, pools and instances. A frame begins with a link of 8 bytes: where its caller goes on (65,535 for an instance), and the frame and
 -- the gate base of its caller or spawner. A place of a pool has 9 bytes before its frame: whether it is taken, its spawn number, its first gate,
 -- and the number of its pool.
-use Rattle.std.specs.Prelude.{ℕ, suc, zero, ◌+◌, ◌-◌, ◌*◌, ◌^◌, ℤ, pos, nat_lt, nat_le, ◌==◌, not, Bool, true, false, ◌&&◌, ◌||◌, if◌then◌else◌, List, [], ◌∷◌, length, Option, Some, None, option_and_then, slice_get}
-use Rattle.std.specs.Option.{option_map}
+use Rattle.std.specs.Prelude.{ℕ, suc, zero, ◌+◌, ◌-◌, ◌*◌, nat_lt, nat_le, ◌==◌, Bool, true, false, ◌&&◌, ◌||◌, if◌then◌else◌, List, [], ◌∷◌, length, Option, Some, None, option_and_then, slice_get}
 use Rattle.ceu_base.specs.declared.kinds.Ty.{Ty}
 use Rattle.ceu_base.specs.declared.kinds.Pos.{Pos}
 use Rattle.ceu_base.specs.declared.kinds.Fault.TheVariants.{SpawnCount}
-use Rattle.ceu_base.specs.declared.kinds.Mark.{Mark}
 use Rattle.ceu_base.specs.declared.kinds.Mark.TheVariants.{Push, Spawned, Full}
 use Rattle.ceu_base.specs.Values.{of_test}
 use Rattle.ceu_code.specs.declared.image.Image.{Image}
@@ -17,7 +15,7 @@ use Rattle.ceu_mem.specs.Memory.{size, with_value}
 use Rattle.ceu_isa.specs.declared.registers.Registers.{Registers}
 use Rattle.ceu_isa.specs.Layout.{in_slots, gate_of, gate_changed, can_run, is_taken, given_of, with_given, top_of}
 use Rattle.ceu_isa.specs.Effects.{Effect, Wrong, Goes, Pauses, Faults, Aborts, Frees, provided, for_some}
-use Rattle.ceu_isa.specs.Cells.{Popped, popped, pushed}
+use Rattle.ceu_isa.specs.Cells.{popped, pushed}
 use Rattle.ceu_isa.specs.Slots.{here}
 use Rattle.ceu_isa.specs.Trails.{opened, can_open, gate_here}
 

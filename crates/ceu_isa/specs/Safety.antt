@@ -1,14 +1,13 @@
 -- Which images and memories are safe: from these bytes on, and for every further list of commands, the machine does nothing that isn't allowed.
-use Rattle.std.specs.Prelude.{◌≡◌, ◌≢◌, ℕ, ◌+◌, ◌-◌, ◌^◌, ◌≤◌, ◌<◌, ◌==◌, ℤ, Bool, true, false, List, [], ◌∷◌, replicate, Option, Some, None, slice_get, length}
+use Rattle.std.specs.Prelude.{◌≡◌, ◌≢◌, ℕ, ◌^◌, ◌≤◌, ◌<◌, ◌==◌, ℤ, true, false, List, [], replicate, Option, Some, None, slice_get, length}
 use Rattle.std.specs.List.{AllByRecursion}
-use Rattle.ceu_base.specs.declared.kinds.Ty.{Ty}
 use Rattle.ceu_base.specs.declared.kinds.Port.{Port}
 use Rattle.ceu_base.specs.Values.{IsValue}
 use Rattle.ceu_code.specs.declared.image.Image.{Image}
 use Rattle.ceu_tree.specs.declared.command.Command.{Command}
 use Rattle.ceu_tree.specs.declared.command.Command.TheVariants.{Input, Advance, Idle}
 use Rattle.ceu_isa.specs.Layout.{end_of, state_of, fresh, waiting, reacting}
-use Rattle.ceu_isa.specs.Turns.{Machine, State, Stuck, Trail, Sweeping, Finalizer, Paused, Ended, Faulted, turned}
+use Rattle.ceu_isa.specs.Turns.{Machine, State, Paused, Ended, Faulted, turned}
 use Rattle.ceu_isa.specs.Reactions.{Config, Lost, Waits, reaction}
 use Rattle.ceu_isa.specs.Commands.{booted, all_done}
 

@@ -1,5 +1,5 @@
 -- Variables and loops: what lies in the slots.
-use Rattle.std.specs.Prelude.{ℕ, ◌+◌, ◌-◌, ◌^◌, ℤ, pos, ◌+ℤ◌, ◌-ℤ◌, int_lt, nat_lt, nat_le, ◌==◌, Bool, true, false, ◌&&◌, if◌then◌else◌, List, [], ◌∷◌, Option, Some, None, slice_get}
+use Rattle.std.specs.Prelude.{ℕ, ◌+◌, ◌^◌, ℤ, pos, ◌+ℤ◌, ◌-ℤ◌, int_lt, nat_lt, ◌==◌, ◌&&◌, if◌then◌else◌, List, [], slice_get}
 use Rattle.ceu_base.specs.declared.kinds.Ty.{Ty}
 use Rattle.ceu_base.specs.declared.kinds.Ty.TheVariants as ty
 use Rattle.ceu_base.specs.declared.kinds.Fault.TheVariants.{LoopLimit}
@@ -9,8 +9,8 @@ use Rattle.ceu_mem.specs.Bytes.{number_at, with_number}
 use Rattle.ceu_mem.specs.Memory.{size, value_at, with_value}
 use Rattle.ceu_isa.specs.declared.registers.Registers.{Registers}
 use Rattle.ceu_isa.specs.Layout.{slots_at, in_slots}
-use Rattle.ceu_isa.specs.Effects.{Effect, Wrong, Goes, Faults, provided, for_some}
-use Rattle.ceu_isa.specs.Cells.{Popped, popped, pushed}
+use Rattle.ceu_isa.specs.Effects.{Effect, Goes, Faults, provided, for_some}
+use Rattle.ceu_isa.specs.Cells.{popped, pushed}
 
 -- a variable of this frame, and one of the program's frame
 abbrev pub here : Registers → ℕ → ℕ

@@ -1,9 +1,8 @@
 -- Trails and their gates: waiting, emitting, starting and ending trails, asyncs, finalizers. The trail that runs has a gate of its own, which is
 -- free while it runs.
-use Rattle.std.specs.Prelude.{ℕ, ◌+◌, ◌-◌, ◌*◌, ◌^◌, ℤ, pos, negsuc, ◌*ℤ◌, int_le, nat_lt, nat_le, ◌==◌, Bool, true, false, ◌&&◌, ◌||◌, if◌then◌else◌, min, max, List, [], ◌∷◌, Option, Some, None, slice_get}
+use Rattle.std.specs.Prelude.{ℕ, ◌+◌, ◌-◌, ◌^◌, ℤ, pos, negsuc, ◌*ℤ◌, nat_lt, nat_le, ◌==◌, Bool, ◌&&◌, ◌||◌, min, max, List, [], ◌∷◌, slice_get}
 use Rattle.ceu_base.specs.declared.kinds.Ty.{Ty}
 use Rattle.ceu_base.specs.declared.kinds.Ty.TheVariants as ty
-use Rattle.ceu_base.specs.declared.kinds.Mark.{Mark}
 use Rattle.ceu_base.specs.declared.kinds.Mark.TheVariants.{Push, Registered}
 use Rattle.ceu_code.specs.declared.image.Image.{Image}
 use Rattle.ceu_code.specs.declared.instr.TimeUnit.{TimeUnit}
@@ -11,9 +10,9 @@ use Rattle.ceu_code.specs.declared.instr.TimeUnit.TheVariants.{H, Min, S, Ms, Us
 use Rattle.ceu_code.specs.Instructions.{cell}
 use Rattle.ceu_mem.specs.declared.gate.Gate.{Gate}
 use Rattle.ceu_isa.specs.declared.registers.Registers.{Registers}
-use Rattle.ceu_isa.specs.Layout.{top_of, with_top, gate_changed, each_gate, free, can_run, on_input, on_time, on_event, forever, unserved, served, finalizer}
-use Rattle.ceu_isa.specs.Effects.{Effect, Wrong, Goes, Pauses, Aborts, GoesOn, provided, for_some}
-use Rattle.ceu_isa.specs.Cells.{Popped, popped, popped_unless_none}
+use Rattle.ceu_isa.specs.Layout.{top_of, with_top, gate_changed, each_gate, can_run, on_time, on_event, finalizer}
+use Rattle.ceu_isa.specs.Effects.{Effect, Goes, Pauses, Aborts, GoesOn, provided, for_some}
+use Rattle.ceu_isa.specs.Cells.{popped, popped_unless_none}
 
 -- a gate of a kind, where the trail goes on behind its instruction, with its frame and gate base
 abbrev pub kept : (kind : ℕ) → Registers → Gate → Gate

@@ -1,6 +1,6 @@
 -- A turn: instruction by instruction, with the aborts in it. An abort visits the gates of a range that aren't free, from the last to the first in
 -- order; each becomes free, and a finalizer runs.
-use Rattle.std.specs.Prelude.{◌≡◌, ℕ, suc, zero, ◌+◌, ◌^◌, nat_lt, ◌==◌, Bool, true, false, if◌then◌else◌, List, [], ◌∷◌, ◌++◌, Option, Some, None, slice_get}
+use Rattle.std.specs.Prelude.{ℕ, suc, zero, ◌+◌, ◌^◌, nat_lt, nat_le, ◌==◌, Bool, true, false, if◌then◌else◌, List, [], ◌∷◌, ◌++◌, Option, Some, None, slice_get}
 use Rattle.ceu_base.specs.declared.kinds.Fault.{Fault}
 use Rattle.ceu_base.specs.declared.kinds.Pos.{Pos}
 use Rattle.ceu_base.specs.declared.kinds.Mark.{Mark}
@@ -11,7 +11,7 @@ use Rattle.ceu_code.specs.Instructions.{size}
 use Rattle.ceu_mem.specs.declared.gate.Gate.{Gate}
 use Rattle.ceu_mem.specs.Bytes.{with_number}
 use Rattle.ceu_isa.specs.declared.registers.Registers.{Registers}
-use Rattle.ceu_isa.specs.Layout.{with_state, faulted, with_scratch, gate_of, gate_changed, freed, forever, finalizer, is_taken, gates_from}
+use Rattle.ceu_isa.specs.Layout.{in_slots, with_state, faulted, with_scratch, gate_of, gate_changed, freed, forever, finalizer, is_taken, gates_from}
 use Rattle.ceu_isa.specs.Fetching.{fetched}
 use Rattle.ceu_isa.specs.Effects.{After, GoesOn, Frees, Fails, Effect, Wrong, Goes, Pauses, Finishes, Faults, Aborts, Leaves}
 use Rattle.ceu_isa.specs.Trails.{kept}
@@ -52,7 +52,7 @@ abbrev pub failing : Image → Fault → Pos → Registers → Machine → State
 failing image f p r m =
     if nat_lt r.own image.gates
     then Sweeping (record { from = 0; count = image.gates; after = Fails f p; trail = record r { depth = 0 } })
-      (rewritten (gate_changed image (kept forever r) r.own (with_state faulted m.bytes)) m)
+    (rewritten (gate_changed image (kept forever r) r.own (with_state faulted m.bytes)) m)
     else Stuck
 
 -- r has the offset behind the instruction
@@ -92,10 +92,10 @@ finalizer_does image (Some i) s r m = if in_finalizers i then finalizer_did (eff
 
 -- ---- the gates of an abort
 
-abbrev pub swept : After → Registers → Machine → State
-swept GoesOn r m = Trail r m
-swept (Frees place) r m = Trail r (rewritten (with_number 1 0 m.bytes place) m)
-swept (Fails f p) r m = Faulted f p m
+abbrev pub swept : Image → After → Registers → Machine → State
+swept image GoesOn r m = Trail r m
+swept image (Frees place) r m = if in_slots image place 9 then Trail r (rewritten (with_number 1 0 m.bytes place) m) else Stuck
+swept image (Fails f p) r m = Faulted f p m
 
 abbrev pub at_gate : (g : ℕ) → Gate → Registers → Registers
 at_gate g gate r = record { own = g; at = gate.code; frame = gate.frame; base = gate.base; depth = r.depth }
@@ -110,12 +110,12 @@ visited image g gate s m =
     else Sweeping s (rewritten (gate_changed image freed g m.bytes) m)
 
 abbrev pub swept_on : Image → Choice → Sweep → Machine → State
-swept_on image Nowhere s m = swept s.after s.trail m
+swept_on image Nowhere s m = swept image s.after s.trail m
 swept_on image Unclear s m = Stuck
 swept_on image (Chosen g) s m = visited image g (gate_of image m.bytes g) s m
 
 abbrev pub next_of : Image → Sweep → Machine → Choice
-next_of image s m = last_of image m.bytes (gates_from image m.bytes is_taken s.from s.count)
+next_of image s m = if nat_le (s.from + s.count) image.gates then last_of image m.bytes (gates_from image m.bytes is_taken s.from s.count) else Unclear
 
 -- ---- steps and turns
 

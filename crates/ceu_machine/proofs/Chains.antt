@@ -1,11 +1,11 @@
 -- The chains of two frames, walked outwards to where they meet.
-use Rattle.std.proofs.Common.{◌≡◌, ◌≢◌, ℕ, zero, suc, ◌+◌, ◌<◌, ◌≤◌, Bool, true, false, ◌&&◌, ◌||◌, nat_lt, eqb, ltb, not, if◌then◌else◌, List, [], ◌∷◌, ◌++◌, Option, Some, None, refl, sym, ap, ◌∙◌, subst, append_assoc, ◌⊎◌, inl, inr, ⊎_elim, arith}
+use Rattle.std.proofs.Common.{◌≡◌, ◌≢◌, ℕ, zero, suc, ◌+◌, ◌<◌, ◌≤◌, Bool, true, false, eqb, if◌then◌else◌, List, [], ◌∷◌, ◌++◌, Option, Some, None, refl, sym, ap, ◌∙◌, append_assoc, ◌⊎◌, inl, inr, ⊎_elim, arith}
 use Rattle.std.proofs.lemmas.List.{append-nil}
 use Rattle.std.specs.Option.{option_map}
 use Rattle.std.proofs.lemmas.Bool.{false≢true, eqb-true, eq-eqb}
 use Rattle.std.proofs.lemmas.Bool.Decides.{nat_tests}
 use Rattle.ceu_code.specs.declared.image.Image.{Image}
-use Rattle.ceu_isa.specs.Layout.{slots_at, end_of, in_slots}
+use Rattle.ceu_isa.specs.Layout.{slots_at, end_of}
 use Rattle.ceu_isa.specs.Pools.{outer_frame}
 use Rattle.ceu_machine.specs.Ordering.{by_last}
 use Rattle.ceu_isa.specs.Order.{is_instance, leads_down, with_frame, chain_in, chain, older, earlier}

@@ -5,3 +5,6 @@ pub mod Lists
 pub mod Opcodes
 pub mod Chains
 pub mod Scans
+pub mod Steps
+pub mod Ticks
+pub mod Turns

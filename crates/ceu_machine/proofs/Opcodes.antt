@@ -1,5 +1,5 @@
 -- Numbers that are no opcodes.
-use Rattle.std.proofs.Common.{◌≡◌, ℕ, ◌≤◌, List, None, length, refl, ap, sym, arith}
+use Rattle.std.proofs.Common.{◌≡◌, ℕ, ◌≤◌, List, None, ap}
 use Rattle.std.specs.Prelude.{slice_get}
 use Rattle.std.proofs.lemmas.Option.{slice_get_past}
 use Rattle.ceu_isa.specs.Fetching.{readers, read_by}

@@ -1,5 +1,5 @@
 -- What an effect that is allowed says of its tests.
-use Rattle.std.proofs.Common.{◌≡◌, ℕ, Bool, true, false, List, Option, Some, None, refl, sym, ap, ◌∙◌, subst, FitsSigned, to_z, of_z, ℤ, Result, arith}
+use Rattle.std.proofs.Common.{◌≡◌, ℕ, Bool, true, false, List, Option, Some, refl, sym, ap, ◌∙◌, subst, FitsSigned, to_z, of_z, ℤ, Result, arith}
 use Rattle.std.specs.Int.{w128}
 use Rattle.std.specs.Prelude.{slice_get}
 use Rattle.std.proofs.lemmas.Int.{to_z-of_z, ints}
@@ -12,7 +12,7 @@ use Rattle.ceu_base.specs.declared.kinds.Ty.TheVariants as ty
 use Rattle.ceu_base.specs.Values.{IsValue, IsAnyValue, applied1, applied2, takes1, takes2}
 use Rattle.ceu_code.specs.declared.image.Image.{Image}
 use Rattle.ceu_isa.specs.declared.registers.Registers.{Registers}
-use Rattle.ceu_isa.specs.Effects.{Effect, Wrong, for_some, provided}
+use Rattle.ceu_isa.specs.Effects.{Effect, for_some, provided}
 use Rattle.ceu_isa.specs.Cells.{Popped, popped, answered, prefixed, prefix_row}
 use Rattle.ceu_machine.specs.Holding.{IsRight}
 use Rattle.ceu_machine.specs.Rows.{left_row}

@@ -1,14 +1,14 @@
 -- The one of some gates that goes before all others is found by a walk that keeps the best so far.
-use Rattle.std.proofs.Common.{◌≡◌, ◌≢◌, ℕ, zero, suc, ◌+◌, ◌-◌, ◌<◌, ◌≤◌, Bool, true, false, ◌&&◌, ◌||◌, not, nat_lt, eqb, ltb, if◌then◌else◌, List, [], ◌∷◌, Option, Some, None, refl, sym, ap, ◌∙◌, subst, ◌⊎◌, inl, inr, ⊎_elim, arith}
+use Rattle.std.proofs.Common.{◌≡◌, ◌≢◌, ℕ, zero, suc, ◌+◌, ◌-◌, ◌<◌, Bool, true, false, ◌&&◌, ◌||◌, not, nat_lt, eqb, if◌then◌else◌, List, [], ◌∷◌, Option, Some, None, refl, sym, ap, ◌∙◌, subst, ◌⊎◌, inl, inr, ⊎_elim, arith}
 use Rattle.std.specs.Prelude.{IsSome, IfSome}
 use Rattle.std.specs.List.{list_all}
-use Rattle.std.proofs.lemmas.Bool.{false≢true, eqb-true, eq-eqb}
+use Rattle.std.proofs.lemmas.Bool.{false≢true, eqb-true}
 use Rattle.std.proofs.lemmas.Bool.Decides.{nat_tests}
 use Rattle.ceu_code.specs.declared.image.Image.{Image}
 use Rattle.ceu_mem.specs.declared.gate.Gate.{Gate}
 use Rattle.ceu_isa.specs.Layout.{gate_of, gates_from}
 use Rattle.ceu_machine.specs.Ordering.{HasChain, better, ahead, end_of_all, choice_of, IsDecided}
-use Rattle.ceu_isa.specs.Order.{Choice, Nowhere, Unclear, Chosen, found, older, of_one_pool, number_of, earlier, goes_before, before, chain, is_first, is_last, first_of, last_of}
+use Rattle.ceu_isa.specs.Order.{Choice, Nowhere, Chosen, found, older, earlier, goes_before, before, chain, is_first, is_last}
 
 -- ---- the order tells two gates apart
 

@@ -6,3 +6,4 @@ pub mod Performing
 pub mod Ordering
 pub mod Noting
 pub mod States
+pub mod Turning

@@ -1,5 +1,4 @@
 -- Whether an instance lives, as the program's answer and as the definition's.
-use Rattle.std.specs.Prelude.{ℕ}
 use Rattle.ceu_machine.specs.declared.pools.Life.{Life}
 use Rattle.ceu_machine.specs.declared.pools.Life.TheVariants as answer
 use Rattle.ceu_isa.specs.Pools as isa

@@ -1,4 +1,4 @@
-//! The machine: one turn of an image over its memory.
+//! The machine: one turn of an image over its memory, exactly as ceu_isa defines it. It takes no memory.
 #![tactic(auto)]
 
 mod after;
@@ -16,5 +16,12 @@ mod pools;
 mod slots;
 mod spawns;
 mod state;
+mod stepping;
 mod trails;
+mod turning;
 mod words;
+
+pub use choosing::{Wanted, pick};
+pub use gates::{gate, set_gate};
+pub use turning::{Turned, turn};
+pub use words::{write_number, write_value};

@@ -1,5 +1,5 @@
 -- The machine's memory: a header, evaluation cells, gates and frames in one array of bytes.
-use Rattle.std.specs.Prelude.{◌≡◌, ℕ, ◌+◌, ◌-◌, ◌*◌, ◌^◌, ◌<◌, ℤ, pos, ◌-ℤ◌, Bool, nat_lt, if◌then◌else◌, List, length, unsigned_abs}
+use Rattle.std.specs.Prelude.{ℕ, ◌+◌, ◌-◌, ◌*◌, ◌^◌, ◌<◌, ℤ, pos, ◌-ℤ◌, nat_lt, if◌then◌else◌, List, unsigned_abs}
 use Rattle.std.specs.Int.{int_rem_euclid}
 use Rattle.ceu_base.specs.Values.{width, is_signed}
 use Rattle.ceu_base.specs.declared.kinds.Ty.{Ty}

@@ -1,8 +1,7 @@
-use Rattle.std.proofs.Common.{◌≡◌, ◌<◌, ◌-◌, ◌+◌, ℕ, Bool, true, Option, Some, None, List, ◌∷◌, if◌then◌else◌, refl, sym, ap, subst, ◌∙◌, arith}
-use Rattle.std.specs.Prelude.{IfSome}
+use Rattle.std.proofs.Common.{◌≡◌, ◌-◌, ◌+◌, ℕ, Option, None, List, ◌∷◌, if◌then◌else◌, refl, sym, ap, subst, ◌∙◌, arith}
 use Rattle.ceu_isa.specs.Layout.{gate_of, gates_from}
-use Rattle.ceu_machine.specs.Ordering.{ahead, better, wants, end_of_all, choice_of}
-use Rattle.ceu_machine.proofs.Scans.{scan, Among, SoFar, scan_on, so_far_on, chained_on, range_none, range_next, range_member, picked, nothing_scanned}
+use Rattle.ceu_machine.specs.Ordering.{ahead, wants, choice_of}
+use Rattle.ceu_machine.proofs.Scans.{scan, SoFar, scan_on, so_far_on, chained_on, range_none, range_next, range_member, picked, nothing_scanned}
 use Rattle.ceu_machine.proofs.choosing.pick.Goals as goal
 
 pub consider-best-requires-clause-chained : goal.consider-best-requires-clause-chained

@@ -1,4 +1,4 @@
-use Rattle.std.proofs.Common.{◌≡◌, ◌∙◌, ◌+◌, ap, suc, sym, add-one, rules, List, ℕ, arith}
+use Rattle.std.proofs.Common.{◌∙◌, ap, sym, List, ℕ, arith}
 use Rattle.ceu_isa.specs.Layout.{each_gate, one_gate}
 use Rattle.ceu_isa.specs.Trails.{waits_for, woken_at, woken}
 use Rattle.ceu_machine.proofs.EachGate.{each_gate_none, each_gate_more}

@@ -1,6 +1,5 @@
-use Rattle.std.proofs.Common.{◌≡◌, ◌<◌, ℕ, Option, Some, sym, subst, ◌∙◌, if◌then◌else◌, arith}
+use Rattle.std.proofs.Common.{◌≡◌, ◌<◌, ℕ, Option, sym, subst, ◌∙◌, arith}
 use Rattle.ceu_isa.specs.Pools.{outer_frame}
-use Rattle.ceu_isa.specs.Order.{is_instance}
 use Rattle.ceu_machine.proofs.Chains.{Walks, Walked, met, first_step, second_step, first_walks, second_walks}
 use Rattle.ceu_machine.proofs.order.earlier.Goals as goal
 

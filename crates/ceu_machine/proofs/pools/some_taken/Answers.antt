@@ -1,4 +1,4 @@
-use Rattle.std.proofs.Common.{◌≡◌, ◌+◌, ◌<◌, ℕ, Bool, sym, ◌∙◌, subst, true, false, arith}
+use Rattle.std.proofs.Common.{◌≡◌, ◌+◌, sym, ◌∙◌, subst, true, false, arith}
 use Rattle.ceu_mem.specs.declared.gate.Gate.{Gate}
 use Rattle.ceu_isa.specs.Layout.{gate_of, is_taken}
 use Rattle.ceu_machine.proofs.Lists.{is_taken_yes, is_taken_no, some_taken_none, some_taken_here, some_taken_next}

@@ -1,5 +1,4 @@
-use Rattle.std.proofs.Common.{◌≡◌, ◌≤◌, ◌+◌, ◌*◌, ℕ, ap, arith}
-use Rattle.ceu_isa.specs.Layout.{end_of}
+use Rattle.std.proofs.Common.{◌≡◌, ◌*◌, ℕ, ap, arith}
 use Rattle.ceu_isa.specs.Pools.{place_size, spawn_at, free_place}
 use Rattle.ceu_machine.proofs.Lists.{room}
 use Rattle.ceu_machine.proofs.spawns.spawn_among.Goals as goal

@@ -1,4 +1,4 @@
-use Rattle.std.proofs.Common.{◌≡◌, ◌≤◌, ◌<◌, ◌+◌, ◌-◌, ◌*◌, ℕ, List, sym, ap, ◌∙◌, subst, arith}
+use Rattle.std.proofs.Common.{◌≡◌, ◌+◌, ◌-◌, ℕ, List, sym, ap, ◌∙◌, arith}
 use Rattle.ceu_isa.specs.Pools.{vacancies, vacant, place_size}
 use Rattle.ceu_machine.proofs.Lists.{vacancies_none, vacancies_next, one_more}
 use Rattle.ceu_machine.proofs.spawns.vacate_all.Goals as goal
