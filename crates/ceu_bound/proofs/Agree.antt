@@ -115,7 +115,7 @@ module _ (w : Part) (P : List Bool) (E F N M : List Cost) (events : SameTables w
       stay_nodes_same end_of-KNode = refl
       stay_nodes_same (more_of-KNode n p s rest) = alike_if w (stands_waiting s) (most (plus (stay P E N S n s) (enter_nodes P E N rest)) (stay_nodes P E N S rest)) (most (plus (stay P F M R n s) (enter_nodes P F M rest)) (stay_nodes P F M R rest)) (stay_nodes P E N S rest) (stay_nodes P F M R rest)
           (alike_most w (plus (stay P E N S n s) (enter_nodes P E N rest)) (plus (stay P F M R n s) (enter_nodes P F M rest)) (stay_nodes P E N S rest) (stay_nodes P F M R rest)
-              (alike_plus w (stay P E N S n s) (stay P F M R n s) (enter_nodes P E N rest) (enter_nodes P F M rest) (stay_same n s) (nodes_same rest)) (stay_nodes_same rest))
+          (alike_plus w (stay P E N S n s) (stay P F M R n s) (enter_nodes P E N rest) (enter_nodes P F M rest) (stay_same n s) (nodes_same rest)) (stay_nodes_same rest))
           (stay_nodes_same rest)
 
       stay_arms_same : {n : _} (r : Row_of-KArm n) → Same w (stay_arms P E N S r) (stay_arms P F M R r)

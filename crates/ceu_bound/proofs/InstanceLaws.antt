@@ -115,18 +115,19 @@ pub instances_step : (main : KBlock) (cs : List KCode) (k : ℕ) (d : KCode) (c0
     ((j : ℕ) → j < k → cap (get_or c2 j 0) ≡ cap (get_or c1 j 0 + n * block_uses j d.body)) → d ≡ get_or cs k d →
     ((j : ℕ) → j < k → cap (get_or c2 j 0) ≡ cap (held_from main cs j k)) × ((j : ℕ) → k ≤ j → j < length cs → get_or c2 j 0 ≡ cap (get_or (instances_from main 0 cs) j 0))
 instances_step main cs k d c0 c1 c2 n below still done made other own above each at =
-    let count : n ≡ cap (get_or (instances_from main 0 cs) k 0) = made ∙ still k (omega arith) ∙ ap cap (sym (instances_at main cs k below)) in
-    (λ j h.
-        each j h ∙
-        same_plus (get_or c1 j 0) (held_from main cs j (k + 1)) (n * block_uses j d.body) (block_uses j d.body * get_or (instances_from main 0 cs) k 0)
-            (ap cap (other j (λ e. omega (arith, h, e))) ∙ still j (omega (arith, h)))
-            (capped_product n (block_uses j d.body) (get_or (instances_from main 0 cs) k 0) count) ∙
-        ap (λ (c : KCode). cap (held_from main cs j (k + 1) + block_uses j c.body * get_or (instances_from main 0 cs) k 0)) at ∙
-        ap cap (sym (held_more main cs j k d below)),
-    λ j h w. above j h ∙ elim (split k j) as (λ _. get_or c1 j 0 ≡ cap (get_or (instances_from main 0 cs) j 0)) [
-      | inl later ↦ other j (λ e. omega (arith, later, e)) ∙ done j (omega (arith, later)) w
-      | inr same ↦ (let equal : j ≡ k = omega (arith, h, same) in ap (λ m. get_or c1 m 0) equal ∙ own ∙ count ∙ ap (λ m. cap (get_or (instances_from main 0 cs) m 0)) (sym equal))
-    ])
+    let count : n ≡ cap (get_or (instances_from main 0 cs) k 0) = made ∙ still k (omega arith) ∙ ap cap (sym (instances_at main cs k below)) in (
+      λ j h.
+          each j h ∙
+          same_plus (get_or c1 j 0) (held_from main cs j (k + 1)) (n * block_uses j d.body) (block_uses j d.body * get_or (instances_from main 0 cs) k 0)
+          (ap cap (other j (λ e. omega (arith, h, e))) ∙ still j (omega (arith, h)))
+          (capped_product n (block_uses j d.body) (get_or (instances_from main 0 cs) k 0) count) ∙
+          ap (λ (c : KCode). cap (held_from main cs j (k + 1) + block_uses j c.body * get_or (instances_from main 0 cs) k 0)) at ∙
+          ap cap (sym (held_more main cs j k d below)),
+      λ j h w. above j h ∙ elim (split k j) as (λ _. get_or c1 j 0 ≡ cap (get_or (instances_from main 0 cs) j 0)) [
+        | inl later ↦ other j (λ e. omega (arith, later, e)) ∙ done j (omega (arith, later)) w
+        | inr same ↦ (let equal : j ≡ k = omega (arith, h, same) in ap (λ m. get_or c1 m 0) equal ∙ own ∙ count ∙ ap (λ m. cap (get_or (instances_from main 0 cs) m 0)) (sym equal))
+      ],
+    )
 
 pub map_by_get : (xs ys : List ℕ) → length xs ≡ length ys → ((j : ℕ) → j < length ys → get_or xs j 0 ≡ cap (get_or ys j 0)) → xs ≡ map cap ys
 map_by_get [] [] h e = refl

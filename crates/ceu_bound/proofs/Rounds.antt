@@ -35,7 +35,7 @@ module _ (K : Kernel) (T : Tables) (wakes : List Wake) (passing : T.passing.item
       cap_idem (1 + total (wake_cost T k) wakes) ∙
       ap (λ t. cap (1 + t)) (law T k) ∙
       same_plus 1 1 (spec.body_cost T k K.body + spec.codes_cost T k K.events 0 K.codes (map cap I)) (pick w W + pick w C) refl
-          (same_plus (spec.body_cost T k K.body) (pick w W) (spec.codes_cost T k K.events 0 K.codes (map cap I)) (pick w C) (body_same T E N before k K.body) (codes_same T E N before k K.events 0 K.codes I)) ∙
+      (same_plus (spec.body_cost T k K.body) (pick w W) (spec.codes_cost T k K.events 0 K.codes (map cap I)) (pick w C) (body_same T E N before k K.body) (codes_same T E N before k K.events 0 K.codes I)) ∙
       ap cap (ap (λ m. 1 + m) (sym (pick_plus w W C)) ∙ ap (λ m. m + pick w (plus W C)) (sym (pick_both w 1)) ∙ sym (pick_plus w (cost 1 1) (plus W C))) ∙
       ap (λ c. cap (pick w c)) (sym at)
 
@@ -51,10 +51,10 @@ module _ (K : Kernel) (T : Tables) (wakes : List Wake) (passing : T.passing.item
   round_same i ns before same each k =
       let E = emissions K i in
       let here : Same T.part (cost_at k (costs ns)) (row E k) =
-          elim (split k (length K.events)) as (λ _. Same T.part (cost_at k (costs ns)) (row E k)) [
-            | inl known ↦ within E ns k before (omega (arith, known, same)) known (each k known)
-            | inr unknown ↦ beyond E ns k (omega (arith, unknown, same)) unknown
-          ] in
+      elim (split k (length K.events)) as (λ _. Same T.part (cost_at k (costs ns)) (row E k)) [
+        | inl known ↦ within E ns k before (omega (arith, known, same)) known (each k known)
+        | inr unknown ↦ beyond E ns k (omega (arith, unknown, same)) unknown
+      ] in
       here ∙ ap (λ p. cap (pick T.part (cost_at k (emissions_from K p E (enters_from p E [] K.codes) (instances_from K.body 0 K.codes) 0 K.events)))) passing
 
   pub settled : (i d : ℕ) → length T.events.items ≡ length K.events → ((e : ℕ) → e < length K.events → get_or T.events.items e 0 ≡ cap (1 + total (wake_cost T e) wakes)) →

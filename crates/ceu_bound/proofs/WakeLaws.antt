@@ -59,10 +59,10 @@ woken_once T e l w es k n paces many rest =
     let X = turn T.part + enter_list T (drop 1 (out-KBlock l.body).list) in
     let loop : loop_cost T e l ≡ (if w.event == e then X else 0) = ap (λ p. if is_event e p then X else 0) (sym paces) ∙ ap (λ b. if b then X else 0) (flipped e w.event) in
     let go : (b : Bool) → (w.event == e) ≡ b → (if b then w.copies * (turn T.part + enter_list T w.rest.now) else 0) ≡ copies es k n e * (if b then X else 0) =
-        λ b. elim b as (λ v. (w.event == e) ≡ v → (if v then w.copies * (turn T.part + enter_list T w.rest.now) else 0) ≡ copies es k n e * (if v then X else 0)) [
-          | true ↦ λ q. ap (λ m. m * (turn T.part + enter_list T w.rest.now)) (many ∙ ap (copies es k n) (same_number w.event e q)) ∙ ap (λ r. copies es k n e * (turn T.part + enter_list T r)) rest
-          | false ↦ λ q. omega arith
-        ] in
+    λ b. elim b as (λ v. (w.event == e) ≡ v → (if v then w.copies * (turn T.part + enter_list T w.rest.now) else 0) ≡ copies es k n e * (if v then X else 0)) [
+      | true ↦ λ q. ap (λ m. m * (turn T.part + enter_list T w.rest.now)) (many ∙ ap (copies es k n) (same_number w.event e q)) ∙ ap (λ r. copies es k n e * (turn T.part + enter_list T r)) rest
+      | false ↦ λ q. omega arith
+    ] in
     go (w.event == e) refl ∙ ap (λ m. copies es k n e * m) (sym loop)
 
 pub woken_push : (T : Tables) (e : ℕ) (old new : List Wake) (w : Wake) (x : ℕ) → new ≡ old ++ w ∷ [] → wake_cost T e w ≡ x → total (wake_cost T e) new ≡ total (wake_cost T e) old + x

@@ -89,8 +89,8 @@ list_same : (w : Part) (P : List Bool) (E F N M : List Cost) → SameTables w E 
 list_same w P E F N M events entering [] = refl
 list_same w P E F N M events entering (s ∷ ss) =
     alike_if w (has_end (quick_node P s)) (plus (enter_node P E N s) (enter_list P E N ss)) (plus (enter_node P F M s) (enter_list P F M ss)) (enter_node P E N s) (enter_node P F M s)
-        (alike_plus w (enter_node P E N s) (enter_node P F M s) (enter_list P E N ss) (enter_list P F M ss) (enter_same w P E F N M events entering s.node s.stmt) (list_same w P E F N M events entering ss))
-        (enter_same w P E F N M events entering s.node s.stmt)
+    (alike_plus w (enter_node P E N s) (enter_node P F M s) (enter_list P E N ss) (enter_list P F M ss) (enter_same w P E F N M events entering s.node s.stmt) (list_same w P E F N M events entering ss))
+    (enter_same w P E F N M events entering s.node s.stmt)
 
 -- ---- the loops of a body
 
@@ -168,9 +168,9 @@ module _ (T : Tables) (E N : List Cost) (events : SameTables T.part (costs T.eve
   one_loop k b None h = ap cap (sym (pick_none T.part))
   one_loop k b (Some f) h =
       same_if (e == f) (turn T.part + measured.enter_list T (drop 1 (out-KBlock b).list)) (pick T.part (plus (cost 1 0) (body_cost T.passing.items E N b))) 0 (pick T.part nothing)
-          (λ yes. same_plus (turn T.part) (turn T.part) (measured.enter_list T (drop 1 (out-KBlock b).list)) (pick T.part (body_cost T.passing.items E N b)) refl (rest_same k b f h) ∙
-              ap cap (sym (pick_plus T.part (cost 1 0) (body_cost T.passing.items E N b) ∙ ap (λ m. m + pick T.part (body_cost T.passing.items E N b)) (pick_turn T.part))))
-          (ap cap (sym (pick_none T.part))) ∙
+      (λ yes. same_plus (turn T.part) (turn T.part) (measured.enter_list T (drop 1 (out-KBlock b).list)) (pick T.part (body_cost T.passing.items E N b)) refl (rest_same k b f h) ∙
+      ap cap (sym (pick_plus T.part (cost 1 0) (body_cost T.passing.items E N b) ∙ ap (λ m. m + pick T.part (body_cost T.passing.items E N b)) (pick_turn T.part))))
+      (ap cap (sym (pick_none T.part))) ∙
       ap cap (sym (pick_if T.part (e == f) (plus (cost 1 0) (body_cost T.passing.items E N b)) nothing))
 
   pub body_same : (b : KBlock) → cap (spec.body_cost T e b) ≡ cap (pick T.part (woken_block T.passing.items E N e b))
@@ -189,9 +189,9 @@ module _ (T : Tables) (E N : List Cost) (events : SameTables T.part (costs T.eve
   codes_same es k (c ∷ cs) (n ∷ ns) =
       let times_one = times (if is_owner k (spec.owner e es) then 1 else n) (woken_block T.passing.items E N e c.body) in
       same_plus (spec.copies es k (cap n) e * spec.body_cost T e c.body) (pick T.part times_one) (spec.codes_cost T e es (k + 1) cs (map cap ns)) (pick T.part (woken_codes T.passing.items E N e (spec.owner e es) (k + 1) cs ns))
-          (same_copies (is_owner k (spec.owner e es)) n (spec.body_cost T e c.body) (pick T.part (woken_block T.passing.items E N e c.body)) (body_same c.body) ∙
-              ap cap (sym (pick_times T.part (if is_owner k (spec.owner e es) then 1 else n) (woken_block T.passing.items E N e c.body))))
-          (codes_same es (k + 1) cs ns) ∙
+      (same_copies (is_owner k (spec.owner e es)) n (spec.body_cost T e c.body) (pick T.part (woken_block T.passing.items E N e c.body)) (body_same c.body) ∙
+      ap cap (sym (pick_times T.part (if is_owner k (spec.owner e es) then 1 else n) (woken_block T.passing.items E N e c.body))))
+      (codes_same es (k + 1) cs ns) ∙
       ap cap (sym (pick_plus T.part times_one (woken_codes T.passing.items E N e (spec.owner e es) (k + 1) cs ns)))
 
 -- ---- the table of the events

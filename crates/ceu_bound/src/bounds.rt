@@ -29,7 +29,12 @@ pub struct Bounds {
 }
 
 // What the events and codes of a program cost in one part.
-fn filled_tables(alloc: Global, kernel: &Kernel, part: Part, wakes: &[Wake]) -> Result<Tables, AllocError>
+fn filled_tables(
+    alloc: Global,
+    kernel: &Kernel,
+    part: Part,
+    wakes: &[Wake],
+) -> Result<Tables, AllocError>
     requires { AreWakes kernel.now (map cap (instances_from kernel.now.body 0 kernel.now.codes)) wakes.now }
     ensures part { IfOk result (λ tables. tables.part ≡ part) }
     ensures tables { IfOk result (AreTables kernel.now) }

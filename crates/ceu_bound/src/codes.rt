@@ -12,10 +12,8 @@ use std::alloc::{AllocError, Global};
 pub fn enter_codes(alloc: Global, tables: &mut Tables, codes: &[KCode]) -> Result<(), AllocError>
     requires { tables.old.entering.items ≡ [] }
     ensures same { OnOk result (tables.new ≡ record tables.old { entering = tables.new.entering }) }
-    ensures entering {
-        OnOk result ((E : List Cost) → SameTables tables.old.part (costs tables.old.events.items) E →
-            SameTables tables.old.part (costs tables.new.entering.items) (enters_from tables.old.passing.items E [] codes.now))
-    }
+    ensures entering { OnOk result ((E : List Cost) → SameTables tables.old.part (costs tables.old.events.items) E →
+        SameTables tables.old.part (costs tables.new.entering.items) (enters_from tables.old.passing.items E [] codes.now)) }
 {
     for code in codes {
         let cost = block_measure(alloc, tables, &code.body)?;
@@ -28,10 +26,8 @@ pub fn enter_codes(alloc: Global, tables: &mut Tables, codes: &[KCode]) -> Resul
 pub fn stay_codes(alloc: Global, tables: &mut Tables, codes: &[KCode]) -> Result<(), AllocError>
     requires { tables.old.staying.items ≡ [] }
     ensures same { OnOk result (tables.new ≡ record tables.old { staying = tables.new.staying }) }
-    ensures staying {
-        OnOk result ((E N : List Cost) → SameTables tables.old.part (costs tables.old.events.items) E → SameTables tables.old.part (costs tables.old.entering.items) N →
-            SameTables tables.old.part (costs tables.new.staying.items) (stays_from tables.old.passing.items E N [] codes.now))
-    }
+    ensures staying { OnOk result ((E N : List Cost) → SameTables tables.old.part (costs tables.old.events.items) E → SameTables tables.old.part (costs tables.old.entering.items) N →
+        SameTables tables.old.part (costs tables.new.staying.items) (stays_from tables.old.passing.items E N [] codes.now)) }
 {
     for code in codes {
         let cost = block_measure(alloc, tables, &code.body)?;

@@ -58,11 +58,15 @@ fn wake_measure(alloc: Global, tables: &Tables, wake: &Wake) -> Result<u64, Allo
 }
 
 // Adds the waking of a loop that an event paces.
-fn add_wake<'k>(found: &FoundLoop<'k>, events: &[KEvent], code: usize, instances: u64, wakes: &mut Vec<Wake<'k>>) -> Result<(), AllocError>
-    ensures {
-        OnOk result ((T : TheTables) (e : ℕ) → total (spec.wake_cost T e) wakes.new.items ≡
-            total (spec.wake_cost T e) wakes.old.items + spec.copies events.now code instances e * spec.loop_cost T e (seen found.now))
-    }
+fn add_wake<'k>(
+    found: &FoundLoop<'k>,
+    events: &[KEvent],
+    code: usize,
+    instances: u64,
+    wakes: &mut Vec<Wake<'k>>,
+) -> Result<(), AllocError>
+    ensures { OnOk result ((T : TheTables) (e : ℕ) → total (spec.wake_cost T e) wakes.new.items ≡
+        total (spec.wake_cost T e) wakes.old.items + spec.copies events.now code instances e * spec.loop_cost T e (seen found.now)) }
 {
     match paced(found.kind, found.body) {
         None => Ok(()),
@@ -77,11 +81,15 @@ fn add_wake<'k>(found: &FoundLoop<'k>, events: &[KEvent], code: usize, instances
     }
 }
 
-fn add_wakes<'k>(loops: &[FoundLoop<'k>], events: &[KEvent], code: usize, instances: u64, wakes: &mut Vec<Wake<'k>>) -> Result<(), AllocError>
-    ensures {
-        OnOk result ((T : TheTables) (e : ℕ) → total (spec.wake_cost T e) wakes.new.items ≡
-            total (spec.wake_cost T e) wakes.old.items + spec.copies events.now code instances e * total (spec.loop_cost T e) (map seen loops.now))
-    }
+fn add_wakes<'k>(
+    loops: &[FoundLoop<'k>],
+    events: &[KEvent],
+    code: usize,
+    instances: u64,
+    wakes: &mut Vec<Wake<'k>>,
+) -> Result<(), AllocError>
+    ensures { OnOk result ((T : TheTables) (e : ℕ) → total (spec.wake_cost T e) wakes.new.items ≡
+        total (spec.wake_cost T e) wakes.old.items + spec.copies events.now code instances e * total (spec.loop_cost T e) (map seen loops.now)) }
 {
     for found in loops {
         add_wake(found, events, code, instances, wakes)?;
@@ -90,23 +98,32 @@ fn add_wakes<'k>(loops: &[FoundLoop<'k>], events: &[KEvent], code: usize, instan
 }
 
 // Adds the wakings of a body that has so many instances.
-fn body_wakes<'k>(alloc: Global, body: &'k KBlock, events: &[KEvent], code: usize, instances: u64, wakes: &mut Vec<Wake<'k>>) -> Result<(), AllocError>
-    ensures {
-        OnOk result ((T : TheTables) (e : ℕ) → total (spec.wake_cost T e) wakes.new.items ≡
-            total (spec.wake_cost T e) wakes.old.items + spec.copies events.now code instances e * spec.body_cost T e body.now)
-    }
+fn body_wakes<'k>(
+    alloc: Global,
+    body: &'k KBlock,
+    events: &[KEvent],
+    code: usize,
+    instances: u64,
+    wakes: &mut Vec<Wake<'k>>,
+) -> Result<(), AllocError>
+    ensures { OnOk result ((T : TheTables) (e : ℕ) → total (spec.wake_cost T e) wakes.new.items ≡
+        total (spec.wake_cost T e) wakes.old.items + spec.copies events.now code instances e * spec.body_cost T e body.now) }
 {
     let mut loops = Vec::new(alloc);
     find_loops(body, &mut loops)?;
     add_wakes(&loops, events, code, instances, wakes)
 }
 
-fn codes_wakes<'k>(alloc: Global, codes: &'k [KCode], events: &[KEvent], instances: &[u64], wakes: &mut Vec<Wake<'k>>) -> Result<(), AllocError>
+fn codes_wakes<'k>(
+    alloc: Global,
+    codes: &'k [KCode],
+    events: &[KEvent],
+    instances: &[u64],
+    wakes: &mut Vec<Wake<'k>>,
+) -> Result<(), AllocError>
     requires { length instances.now ≡ length codes.now }
-    ensures {
-        OnOk result ((T : TheTables) (e : ℕ) → total (spec.wake_cost T e) wakes.new.items ≡
-            total (spec.wake_cost T e) wakes.old.items + spec.codes_cost T e events.now 0 codes.now instances.now)
-    }
+    ensures { OnOk result ((T : TheTables) (e : ℕ) → total (spec.wake_cost T e) wakes.new.items ≡
+        total (spec.wake_cost T e) wakes.old.items + spec.codes_cost T e events.now 0 codes.now instances.now) }
 {
     for (code, body) in codes.iter().enumerate() {
         body_wakes(alloc, &body.body, events, code, instances[code], wakes)?;
@@ -115,12 +132,14 @@ fn codes_wakes<'k>(alloc: Global, codes: &'k [KCode], events: &[KEvent], instanc
 }
 
 /// The wakings of a program, by the instances of each code.
-pub fn all_wakes<'k>(alloc: Global, kernel: &'k Kernel, instances: &[u64]) -> Result<Vec<Wake<'k>>, AllocError>
+pub fn all_wakes<'k>(
+    alloc: Global,
+    kernel: &'k Kernel,
+    instances: &[u64],
+) -> Result<Vec<Wake<'k>>, AllocError>
     requires { length instances.now ≡ length kernel.now.codes }
-    ensures {
-        IfOk result (λ wakes. (T : TheTables) (e : ℕ) → total (spec.wake_cost T e) wakes.items ≡
-            spec.body_cost T e kernel.now.body + spec.codes_cost T e kernel.now.events 0 kernel.now.codes instances.now)
-    }
+    ensures { IfOk result (λ wakes. (T : TheTables) (e : ℕ) → total (spec.wake_cost T e) wakes.items ≡
+        spec.body_cost T e kernel.now.body + spec.codes_cost T e kernel.now.events 0 kernel.now.codes instances.now) }
 {
     let mut wakes = Vec::new(alloc);
     let events = kernel.events.items();
@@ -140,7 +159,12 @@ fn add_at(costs: &mut Vec<u64>, number: u32, cost: u64)
 }
 
 // The emissions' costs, each with the wakings by the tables.
-fn round(alloc: Global, tables: &Tables, wakes: &[Wake], count: usize) -> Result<Vec<u64>, AllocError>
+fn round(
+    alloc: Global,
+    tables: &Tables,
+    wakes: &[Wake],
+    count: usize,
+) -> Result<Vec<u64>, AllocError>
     ensures len { IfOk result (λ costs. length costs.items ≡ count) }
     ensures each { IfOk result (λ costs. (e : ℕ) → e < count → slice_index costs.items e ≡ cap (1 + total (spec.wake_cost tables.now e) wakes.now)) }
 {
@@ -159,7 +183,12 @@ fn same_costs(first: &[u64], second: &[u64]) -> bool
 }
 
 /// Fills the table of the events: rounds along the emissions until nothing changes, at most as many as there are events.
-pub fn settle(alloc: Global, tables: &mut Tables, kernel: &Kernel, wakes: &[Wake]) -> Result<(), AllocError>
+pub fn settle(
+    alloc: Global,
+    tables: &mut Tables,
+    kernel: &Kernel,
+    wakes: &[Wake],
+) -> Result<(), AllocError>
     requires empty { tables.old.events.items ≡ [] }
     requires passing { tables.old.passing.items ≡ passes_from [] kernel.now.codes }
     requires wakes { spec.AreWakes kernel.now (map cap (instances_from kernel.now.body 0 kernel.now.codes)) wakes.now }

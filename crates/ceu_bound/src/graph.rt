@@ -42,7 +42,12 @@ fn open_arrow(reached: &[u32], arrows: &[Arrow]) -> Option<Arrow>
 }
 
 /// Whether a path of arrows leads from one event to another.
-pub fn reaches(alloc: Global, arrows: &[Arrow], source: u32, target: u32) -> Result<bool, AllocError>
+pub fn reaches(
+    alloc: Global,
+    arrows: &[Arrow],
+    source: u32,
+    target: u32,
+) -> Result<bool, AllocError>
     ensures found { IfOk result (λ answer. answer ≡ true → Path arrows.now source target) }
     ensures none { IfOk result (λ answer. answer ≡ false → Path arrows.now source target → ⊥) }
 {

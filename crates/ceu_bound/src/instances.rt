@@ -33,7 +33,13 @@ fn add_uses(counts: &mut Vec<u64>, uses: &[CodeUse], holders: u64, below: usize)
     }
 }
 
-fn add_body(alloc: Global, counts: &mut Vec<u64>, body: &KBlock, holders: u64, below: usize) -> Result<(), AllocError>
+fn add_body(
+    alloc: Global,
+    counts: &mut Vec<u64>,
+    body: &KBlock,
+    holders: u64,
+    below: usize,
+) -> Result<(), AllocError>
     ensures len { OnOk result (length counts.new.items ≡ length counts.old.items) }
     ensures above { OnOk result ((j : ℕ) → below ≤ j → slice_index counts.new.items j ≡ slice_index counts.old.items j) }
     ensures each { OnOk result ((j : ℕ) → j < below → j < length counts.old.items → cap (slice_index counts.new.items j) ≡ cap (slice_index counts.old.items j + holders * block_uses j body.now)) }

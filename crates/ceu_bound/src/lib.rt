@@ -15,3 +15,6 @@ mod weights;
 pub use bounds::{Bounds, bound};
 pub use cells::depth;
 pub use weights::weight;
+
+#[cfg(test)]
+mod tests;

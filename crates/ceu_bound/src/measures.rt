@@ -10,7 +10,9 @@ ghost use Rattle.ceu_bound.specs.Measured as measured;
 ghost use Rattle.ceu_bound.specs.Measured.{unless_paced};
 
 use crate::tables::{Part, Tables};
-use ceu_paths::{CAP, Exit, block_exits, constant_bound, has_exit, paced, stands_waiting, stmt_exits};
+use ceu_paths::{
+    CAP, Exit, block_exits, constant_bound, has_exit, paced, stands_waiting, stmt_exits,
+};
 use ceu_tree::{KArm, KBlock, KDecl, KKind, KLoop, KNode, KStmt};
 use std::alloc::{AllocError, Global};
 
@@ -74,7 +76,13 @@ fn cost_of(enter: u64, stay: u64) -> Measure
 }
 
 // How often a loop's body may be entered in one reaction.
-fn loop_times(alloc: Global, passing: &[bool], node: u32, kind: &KLoop, body: &KBlock) -> Result<u64, AllocError>
+fn loop_times(
+    alloc: Global,
+    passing: &[bool],
+    node: u32,
+    kind: &KLoop,
+    body: &KBlock,
+) -> Result<u64, AllocError>
     ensures { IfOk result (λ times. times ≡ cap (spec.loop_times passing.now node kind.now body.now)) }
 {
     let Some(turns) = constant_bound(kind) else {
@@ -147,7 +155,12 @@ fn pools_stay(tables: &Tables, decls: &[KDecl]) -> u64
 
 #[cycle(costing)]
 #[tactic(auto, using(crate::proofs::MeasureLaws::measures, ceu_tree::proofs::Sizes::sizes, ceu_paths::proofs::CapLaws::caps))]
-fn stmt_measure(alloc: Global, tables: &Tables, node: u32, stmt: &KStmt) -> Result<Measure, AllocError>
+fn stmt_measure(
+    alloc: Global,
+    tables: &Tables,
+    node: u32,
+    stmt: &KStmt,
+) -> Result<Measure, AllocError>
     ensures enter { IfOk result (λ cost. cost.enter ≡ cap (measured.enter_stmt tables.now node stmt.now)) }
     ensures stay { IfOk result (λ cost. cost.stay ≡ cap (measured.stay_stmt tables.now node stmt.now)) }
 {
@@ -162,7 +175,10 @@ fn stmt_measure(alloc: Global, tables: &Tables, node: u32, stmt: &KStmt) -> Resu
             Ok(cost_of(enter, 0))
         }
         KStmt::AwaitCode(code, _, _, _) => {
-            Ok(cost_of(cost_at(&tables.entering, *code), cost_at(&tables.staying, *code)))
+            Ok(cost_of(
+                cost_at(&tables.entering, *code),
+                cost_at(&tables.staying, *code),
+            ))
         }
         KStmt::Do(_, body) => block_measure(alloc, tables, body),
         KStmt::If(arms, last) => {
@@ -247,7 +263,11 @@ fn arms_measure(alloc: Global, tables: &Tables, arms: &[KArm]) -> Result<Measure
 // Branches beside others: each takes a turn.
 #[cycle(costing)]
 #[tactic(auto, using(crate::proofs::MeasureLaws::measures, ceu_tree::proofs::Sizes::sizes, ceu_paths::proofs::CapLaws::caps))]
-fn branches_measure(alloc: Global, tables: &Tables, branches: &[KBlock]) -> Result<Measure, AllocError>
+fn branches_measure(
+    alloc: Global,
+    tables: &Tables,
+    branches: &[KBlock],
+) -> Result<Measure, AllocError>
     ensures enter { IfOk result (λ cost. cost.enter ≡ cap (total (measured.enter_branch tables.now) branches.now)) }
     ensures stay { IfOk result (λ cost. cost.stay ≡ cap (total (measured.stay_block tables.now) branches.now)) }
 {

@@ -10,7 +10,9 @@ ghost use Rattle.ceu_bound.specs.Verdict as verdict;
 
 use crate::graph::{Arrow, reaches};
 use ceu_base::{Pos, Rule};
-use ceu_paths::{Exit, FoundLoop, block_exits, constant_bound, emit_in, find_loops, has_exit, paced};
+use ceu_paths::{
+    Exit, FoundLoop, block_exits, constant_bound, emit_in, find_loops, has_exit, paced,
+};
 use ceu_tree::{KCode, Kernel};
 use std::alloc::{AllocError, Global};
 
@@ -77,7 +79,12 @@ pub fn all_loops<'k>(alloc: Global, kernel: &'k Kernel) -> Result<Vec<FoundLoop<
 }
 
 // Whether a path leads from one of these events back to the event.
-fn leads_back(alloc: Global, arrows: &[Arrow], event: u32, emitted: &[u32]) -> Result<bool, AllocError>
+fn leads_back(
+    alloc: Global,
+    arrows: &[Arrow],
+    event: u32,
+    emitted: &[u32],
+) -> Result<bool, AllocError>
     ensures found { IfOk result (λ answer. answer ≡ true → (f : ℕ) × Contains emitted.now f × Path arrows.now f event) }
     ensures none { IfOk result (λ answer. answer ≡ false → (f : ℕ) → Contains emitted.now f → Path arrows.now f event → ⊥) }
 {
@@ -103,7 +110,12 @@ fn rule_where(broken: bool, rule: Rule) -> Option<Rule>
     if broken { Some(rule) } else { None }
 }
 
-fn paced_breaks(alloc: Global, arrows: &[Arrow], event: u32, found: &FoundLoop) -> Result<bool, AllocError>
+fn paced_breaks(
+    alloc: Global,
+    arrows: &[Arrow],
+    event: u32,
+    found: &FoundLoop,
+) -> Result<bool, AllocError>
     ensures found { IfOk result (λ answer. answer ≡ true → (f : ℕ) × Contains (block_emits found.now.body.now) f × Path arrows.now f event) }
     ensures none { IfOk result (λ answer. answer ≡ false → (f : ℕ) → Contains (block_emits found.now.body.now) f → Path arrows.now f event → ⊥) }
 {
@@ -113,7 +125,12 @@ fn paced_breaks(alloc: Global, arrows: &[Arrow], event: u32, found: &FoundLoop) 
 }
 
 // The rule that a loop breaks.
-fn broken_rule(alloc: Global, passing: &[bool], arrows: &[Arrow], found: &FoundLoop) -> Result<Option<Rule>, AllocError>
+fn broken_rule(
+    alloc: Global,
+    passing: &[bool],
+    arrows: &[Arrow],
+    found: &FoundLoop,
+) -> Result<Option<Rule>, AllocError>
     ensures { IfOk result (λ rule. verdict.IsVerdict passing.now arrows.now (seen found.now) rule) }
 {
     if let Some(turns) = constant_bound(found.kind) {
@@ -174,7 +191,12 @@ fn earlier(first: Option<Broken>, pos: Pos, rule: Option<Rule>) -> Option<Broken
 }
 
 /// The first of the rules that these loops break, where `passing` says which codes may go on at once.
-pub fn first_broken(alloc: Global, passing: &[bool], arrows: &[Arrow], loops: &[FoundLoop]) -> Result<Option<Broken>, AllocError>
+pub fn first_broken(
+    alloc: Global,
+    passing: &[bool],
+    arrows: &[Arrow],
+    loops: &[FoundLoop],
+) -> Result<Option<Broken>, AllocError>
     ensures { IfOk result (λ first. verdict.IsFirstOf passing.now arrows.now (map seen loops.now) first) }
 {
     let mut first = None;

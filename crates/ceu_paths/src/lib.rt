@@ -9,9 +9,9 @@ mod uses;
 mod waits;
 mod ways;
 
+pub use calm::paced;
 pub use emissions::emit_in;
 pub use loops::{FoundLoop, find_loops};
-pub use calm::paced;
 pub use turns::{CAP, constant_bound};
 pub use uses::{CodeUse, uses_in};
 pub use waits::stands_waiting;

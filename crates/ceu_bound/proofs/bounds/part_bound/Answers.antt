@@ -11,5 +11,5 @@ returns c =
     let tables = c.in_ok-tables.tables in
     let body = c.args.kernel.now.body in
     let made : c.max.result ≡ cap (max (turn tables.part + enter_block tables body) (stay_block tables body)) =
-        omega (arith, c.max.ensures, c.plus.ensures, c.turn.ensures, c.in_ok-main.ensures.enter, c.in_ok-main.ensures.stay) in
+    omega (arith, c.max.ensures, c.plus.ensures, c.turn.ensures, c.in_ok-main.ensures.enter, c.in_ok-main.ensures.stay) in
     made ∙ bounds_same c.args.kernel.now tables c.in_ok-tables.ensures.tables ∙ ap (λ w. cap (pick w (bounds c.args.kernel.now))) c.in_ok-tables.ensures.part

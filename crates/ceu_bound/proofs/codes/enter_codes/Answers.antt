@@ -14,9 +14,10 @@ loop-code-preserved c =
     let below : c.loop-code.code-index < length c.args.codes.now = omega arith in
     let P : Tables → Type 0 = λ t. c.in_ok-cost.cost.enter ≡ cap (measured.enter_block t c.code-item.result.body) in
     let made = subst P c.loop-code.invariant.0 c.in_ok-cost.ensures.enter in
-    let T : Tables = record c.args.tables.now { entering = c.loop-code.tables.entering } in
-    (ap (λ (t : Tables). record t { entering = c.push.new.self }) c.loop-code.invariant.0,
-    λ E events. enter_push T E c.args.codes.now c.loop-code.code-index c.code-item.result c.in_ok-cost.cost.enter below c.code-item.is events made (c.loop-code.invariant.1 E events) c.push.new.self.items c.in_ok-push.ensures.items)
+    let T : Tables = record c.args.tables.now { entering = c.loop-code.tables.entering } in (
+      ap (λ (t : Tables). record t { entering = c.push.new.self }) c.loop-code.invariant.0,
+      λ E events. enter_push T E c.args.codes.now c.loop-code.code-index c.code-item.result c.in_ok-cost.cost.enter below c.code-item.is events made (c.loop-code.invariant.1 E events) c.push.new.self.items c.in_ok-push.ensures.items,
+    )
 
 pub returns-clause-entering : goal.returns-clause-entering
 returns-clause-entering c = λ E events.

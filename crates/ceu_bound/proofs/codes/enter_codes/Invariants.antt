@@ -7,4 +7,4 @@ use Rattle.ceu_bound.proofs.codes.enter_codes.Given as goal
 abbrev pub invariant-loop-code : goal.invariant-loop-code
 invariant-loop-code l = (l.tables ≡ record l.initial.tables { entering = l.tables.entering }) ×
     ((E : List Cost) → SameTables l.initial.tables.part (costs l.initial.tables.events.items) E →
-        AllZip (Same l.initial.tables.part) (costs l.tables.entering.items) (enters_from l.initial.tables.passing.items E [] (take l.code-index l.codes)))
+    AllZip (Same l.initial.tables.part) (costs l.tables.entering.items) (enters_from l.initial.tables.passing.items E [] (take l.code-index l.codes)))

@@ -14,9 +14,10 @@ loop-code-preserved c =
     let below : c.loop-code.code-index < length c.args.codes.now = omega arith in
     let P : Tables → Type 0 = λ t. c.in_ok-cost.cost.stay ≡ cap (measured.stay_block t c.code-item.result.body) in
     let made = subst P c.loop-code.invariant.0 c.in_ok-cost.ensures.stay in
-    let T : Tables = record c.args.tables.now { staying = c.loop-code.tables.staying } in
-    (ap (λ (t : Tables). record t { staying = c.push.new.self }) c.loop-code.invariant.0,
-    λ E N events entering. stay_push T E N c.args.codes.now c.loop-code.code-index c.code-item.result c.in_ok-cost.cost.stay below c.code-item.is events entering made (c.loop-code.invariant.1 E N events entering) c.push.new.self.items c.in_ok-push.ensures.items)
+    let T : Tables = record c.args.tables.now { staying = c.loop-code.tables.staying } in (
+      ap (λ (t : Tables). record t { staying = c.push.new.self }) c.loop-code.invariant.0,
+      λ E N events entering. stay_push T E N c.args.codes.now c.loop-code.code-index c.code-item.result c.in_ok-cost.cost.stay below c.code-item.is events entering made (c.loop-code.invariant.1 E N events entering) c.push.new.self.items c.in_ok-push.ensures.items,
+    )
 
 pub returns-clause-staying : goal.returns-clause-staying
 returns-clause-staying c = λ E N events entering.

@@ -15,4 +15,4 @@ returns-in_ok-push-in-Some c = λ T e.
     let rest : c.after_first.result.now ≡ drop 1 (out-KBlock c.args.found.now.body.now).list = cc in
     let made : Wake = record { event = c.in-Some.event; copies = c.copies.result; rest = c.after_first.result } in
     woken_push T e c.args.wakes.now.items c.push.new.self.items made _ c.in_ok-push-in-Some.ensures.items
-        (woken_once T e (seen c.args.found.now) made c.args.events.now c.args.code c.args.instances c.in-Some.ensures c.copies.ensures rest)
+    (woken_once T e (seen c.args.found.now) made c.args.events.now c.args.code c.args.instances c.in-Some.ensures c.copies.ensures rest)

@@ -17,10 +17,11 @@ loop-done-preserved c =
     let T : Tables = record c.args.tables.now { events = c.loop-done.tables.events } in
     let count = ap length c.items-count.ensures in
     let P : ℕ → Tables → Type 0 = λ e t. get_or c.in_ok-costs.costs.items e 0 ≡ cap (1 + total (wake_cost t e) c.args.wakes.now) in
-    let Q : ℕ → Type 0 = λ m. SameTables c.args.tables.now.part (costs c.in_ok-costs.costs.items) (emissions K m) in
-    (ap (λ (t : Tables). record t { events = c.in_ok-costs.costs }) c.loop-done.invariant.0,
-    subst Q (sym (add-one c.loop-done.done)) (round_same K T c.args.wakes.now c.requires.passing c.requires.wakes c.loop-done.done c.in_ok-costs.costs.items c.loop-done.invariant.1 (c.in_ok-costs.ensures.len ∙ count)
-        (λ e h. subst (P e) c.loop-done.invariant.0 (c.in_ok-costs.ensures.each e (omega (arith, h, count))))))
+    let Q : ℕ → Type 0 = λ m. SameTables c.args.tables.now.part (costs c.in_ok-costs.costs.items) (emissions K m) in (
+      ap (λ (t : Tables). record t { events = c.in_ok-costs.costs }) c.loop-done.invariant.0,
+      subst Q (sym (add-one c.loop-done.done)) (round_same K T c.args.wakes.now c.requires.passing c.requires.wakes c.loop-done.done c.in_ok-costs.costs.items c.loop-done.invariant.1 (c.in_ok-costs.ensures.len ∙ count)
+          (λ e h. subst (P e) c.loop-done.invariant.0 (c.in_ok-costs.ensures.each e (omega (arith, h, count))))),
+    )
 
 pub returns-then-same_costs-clause-events : goal.returns-then-same_costs-clause-events
 returns-then-same_costs-clause-events c =
@@ -33,5 +34,5 @@ returns-then-same_costs-clause-events c =
     let Q : ℕ → Type 0 = λ m. SameTables c.args.tables.now.part (costs c.loop-done.tables.events.items) (emissions K m) in
     let rest : length K.events - c.loop-done.done + c.loop-done.done ≡ length K.events = omega (arith, count) in
     subst Q rest (settled K T c.args.wakes.now c.requires.passing c.requires.wakes c.loop-done.done (length K.events - c.loop-done.done) (sym (ap length equal) ∙ c.in_ok-costs.ensures.len ∙ count)
-        (λ e h. subst (R e) equal (subst (P e) c.loop-done.invariant.0 (c.in_ok-costs.ensures.each e (omega (arith, h, count)))))
-        c.loop-done.invariant.1)
+    (λ e h. subst (R e) equal (subst (P e) c.loop-done.invariant.0 (c.in_ok-costs.ensures.each e (omega (arith, h, count)))))
+    c.loop-done.invariant.1)

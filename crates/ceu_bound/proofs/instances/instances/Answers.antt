@@ -16,16 +16,16 @@ loop-left-preserved c =
     let body = get_or seen (left - 1) c.index-codes-left.result in
     let at : body ≡ get_or codes (left - 1) body = cc (c.index-codes-left.is, c.items-codes.ensures) in
     let step = instances_step main codes (left - 1) body c.loop-left.counts.items c.capped-holders.new.counts.items c.add_body-in-loop-left.new.counts.items c.capped-holders.result below
-        (λ j h. c.loop-left.invariant.2 j (omega (arith, h, next)) ∙ ap (λ m. cap (held_from main codes j m)) (sym next))
-        (λ j h w. c.loop-left.invariant.3 j (omega (arith, h, next)) w)
-        c.capped-holders.ensures.result c.capped-holders.ensures.other c.capped-holders.ensures.same
-        c.in_ok-add_body-2.ensures.above
-        (λ j h. c.in_ok-add_body-2.ensures.each j h (omega (arith, h, below, c.loop-left.invariant.1, c.capped-holders.ensures.len)))
-        at in
+    (λ j h. c.loop-left.invariant.2 j (omega (arith, h, next)) ∙ ap (λ m. cap (held_from main codes j m)) (sym next))
+    (λ j h w. c.loop-left.invariant.3 j (omega (arith, h, next)) w)
+    c.capped-holders.ensures.result c.capped-holders.ensures.other c.capped-holders.ensures.same
+    c.in_ok-add_body-2.ensures.above
+    (λ j h. c.in_ok-add_body-2.ensures.each j h (omega (arith, h, below, c.loop-left.invariant.1, c.capped-holders.ensures.len)))
+    at in
     (omega (arith, c.loop-left.invariant.0), omega (arith, c.loop-left.invariant.1, c.capped-holders.ensures.len, c.in_ok-add_body-2.ensures.len), step.0, step.1)
 
 pub returns : goal.returns
 returns c =
     map_by_get c.loop-left.counts.items (instances_from c.args.kernel.now.body 0 c.args.kernel.now.codes)
-        (omega (arith, c.loop-left.invariant.1, instances_length c.args.kernel.now.body 0 c.args.kernel.now.codes))
-        (λ j w. c.loop-left.invariant.3 j (omega (arith, c.loop-left-test.false)) (omega (arith, w, instances_length c.args.kernel.now.body 0 c.args.kernel.now.codes)))
+    (omega (arith, c.loop-left.invariant.1, instances_length c.args.kernel.now.body 0 c.args.kernel.now.codes))
+    (λ j w. c.loop-left.invariant.3 j (omega (arith, c.loop-left-test.false)) (omega (arith, w, instances_length c.args.kernel.now.body 0 c.args.kernel.now.codes)))

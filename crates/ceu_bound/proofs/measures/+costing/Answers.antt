@@ -16,8 +16,9 @@ branches_measure-loop-branch-preserved t c =
     let here_enter = ap (enter_block c.args.tables.now) (sym c.branch-item.is) in
     let here_stay = ap (stay_block c.args.tables.now) (sym c.branch-item.is) in
     rw add-one (
-        omega (arith, more_enter, here_enter, c.loop-branch.invariant.0, c.in_ok-here.ensures.enter, c.turn-own.ensures, c.plus-enter.ensures, c.plus.ensures, c.cost_of-sum-in-loop-branch.ensures.enter),
-        omega (arith, more_stay, here_stay, c.loop-branch.invariant.1, c.in_ok-here.ensures.stay, c.plus-in-loop-branch.ensures, c.cost_of-sum-in-loop-branch.ensures.stay))
+      omega (arith, more_enter, here_enter, c.loop-branch.invariant.0, c.in_ok-here.ensures.enter, c.turn-own.ensures, c.plus-enter.ensures, c.plus.ensures, c.cost_of-sum-in-loop-branch.ensures.enter),
+      omega (arith, more_stay, here_stay, c.loop-branch.invariant.1, c.in_ok-here.ensures.stay, c.plus-in-loop-branch.ensures, c.cost_of-sum-in-loop-branch.ensures.stay),
+    )
 
 pub nodes_measure-loop-left-init : goal.nodes_measure-loop-left-init
 nodes_measure-loop-left-init t c =
@@ -30,12 +31,13 @@ nodes_measure-loop-left-preserved t c =
     let above : 0 < c.loop-left.left = omega (arith, c.loop-left-test.true) in
     let below : c.loop-left.left - 1 < length c.args.nodes.now = omega (arith, above, c.loop-left.invariant.2) in
     let next : c.loop-left.left - 1 + 1 ≡ c.loop-left.left = omega (arith, above) in
-    let ends : c.has_exit-ends.result ≡ has_end (quick_node c.args.tables.now.passing.items c.index-nodes-left.result) = cc (c.has_exit-ends.ensures, c.deref-in-loop-left.ensures.value, c.in_ok-exits.ensures, c.deref.ensures.value) in
-    (nodes_enter c.args.tables.now c.args.nodes.now (c.loop-left.left - 1) c.loop-left.left c.index-nodes-left.result c.has_exit-ends.result c.in_ok-here.here.enter c.loop-left.cost.enter c.before-cost.result.enter
-        below next c.index-nodes-left.is ends c.in_ok-here.ensures.enter c.loop-left.invariant.0 c.before-cost.ensures.enter,
-    nodes_stay c.args.tables.now c.args.nodes.now (c.loop-left.left - 1) c.loop-left.left c.index-nodes-left.result c.stands_waiting.result c.in_ok-here.here.stay c.loop-left.cost.enter c.loop-left.cost.stay c.before-cost.result.stay
-        below next c.index-nodes-left.is c.stands_waiting.ensures c.in_ok-here.ensures.stay c.loop-left.invariant.0 c.loop-left.invariant.1 c.before-cost.ensures.stay,
-    omega (arith, c.loop-left.invariant.2))
+    let ends : c.has_exit-ends.result ≡ has_end (quick_node c.args.tables.now.passing.items c.index-nodes-left.result) = cc (c.has_exit-ends.ensures, c.deref-in-loop-left.ensures.value, c.in_ok-exits.ensures, c.deref.ensures.value) in (
+      nodes_enter c.args.tables.now c.args.nodes.now (c.loop-left.left - 1) c.loop-left.left c.index-nodes-left.result c.has_exit-ends.result c.in_ok-here.here.enter c.loop-left.cost.enter c.before-cost.result.enter
+          below next c.index-nodes-left.is ends c.in_ok-here.ensures.enter c.loop-left.invariant.0 c.before-cost.ensures.enter,
+      nodes_stay c.args.tables.now c.args.nodes.now (c.loop-left.left - 1) c.loop-left.left c.index-nodes-left.result c.stands_waiting.result c.in_ok-here.here.stay c.loop-left.cost.enter c.loop-left.cost.stay c.before-cost.result.stay
+          below next c.index-nodes-left.is c.stands_waiting.ensures c.in_ok-here.ensures.stay c.loop-left.invariant.0 c.loop-left.invariant.1 c.before-cost.ensures.stay,
+      omega (arith, c.loop-left.invariant.2),
+    )
 
 pub par_measure-returns-in_ok-beside-in-len1-up-clause-enter : goal.par_measure-returns-in_ok-beside-in-len1-up-clause-enter
 par_measure-returns-in_ok-beside-in-len1-up-clause-enter t c =

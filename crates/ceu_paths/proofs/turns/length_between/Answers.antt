@@ -1,5 +1,4 @@
-use Rattle.std.proofs.Common.{◌≡◌, ◌∙◌, ap, sym, arith}
-use Rattle.std.specs.Prelude.{pos, ◌-ℤ◌}
+use Rattle.std.proofs.Common.{◌∙◌, ap, sym, arith}
 use Rattle.std.proofs.lemmas.Int.{ints}
 use Rattle.ceu_paths.specs.Cap.{cap}
 use Rattle.ceu_paths.proofs.TurnLaws.{length_at}
