@@ -2,8 +2,9 @@
 use Rattle.std.proofs.Common.{◌≡◌, refl, sym, ap, ◌∙◌, ℕ, zero, suc, ◌+◌, ◌<◌, ◌≤◌, Bool, true, false, not, ◌&&◌, ◌||◌, ◌==◌, ◌⊎◌, inl, inr, subst, cond, List, [], ◌∷◌, ◌++◌, length, take, get_or, arith}
 use Rattle.std.specs.Prelude.{Option, Some, None, find}
 use Rattle.std.specs.List.{Contains}
+use Rattle.ceu_tree.specs.Paths.{flag}
 use Rattle.ceu_bound.specs.declared.graph.Arrow.{Arrow}
-use Rattle.ceu_bound.specs.Graph.{arrow, Path, stays, goes, is_member, is_open}
+use Rattle.ceu_bound.specs.Graph.{arrow, Path, stays, goes, is_member, is_open, leaks}
 
 -- ---- membership
 
@@ -147,3 +148,29 @@ search_falls R A a h =
     let found = found_in (is_open R) A a h in
     let parts = both_true (is_member a.source R) (not (is_member a.target R)) found.1 in
     count_falls R a.target A found.0.0 a found.0.1 found.0.2 refl (not_true (is_member a.target R) parts.1)
+
+-- ---- marks
+
+leak_at : (M : List Bool) (A : List Arrow) (k : ℕ) (a : Arrow) → find (leaks M) A ≡ None → k < length A → leaks M (get_or A k a) ≡ false
+leak_at M [] k a h below = absurd (omega arith)
+leak_at M (x ∷ xs) zero a h below = (none_head (leaks M x) x (find (leaks M) xs) h).0
+leak_at M (x ∷ xs) (suc k) a h below = leak_at M xs k a (none_head (leaks M x) x (find (leaks M) xs) h).1 (omega arith)
+
+leak_step : (M : List Bool) (A : List Arrow) (e f : ℕ) → find (leaks M) A ≡ None → Contains A (arrow e f) → flag e M ≡ true → flag f M ≡ true
+leak_step M A e f h (k, below, at) m = not_open (flag e M) (flag f M) (sym (ap (leaks M) at) ∙ leak_at M A k (arrow e f) h below) m
+
+pub path_marked : (M : List Bool) (A : List Arrow) (e g : ℕ) → find (leaks M) A ≡ None → Path A e g → flag e M ≡ true → flag g M ≡ true
+path_marked M A _ _ h (stays e) m = m
+path_marked M A _ _ h (goes e f g c p) m = path_marked M A f g h p (leak_step M A e f h c m)
+
+-- ---- a way back
+
+pub before_path : (A : List Arrow) (k : ℕ) (a : Arrow) (at target : ℕ) → k < length A → get_or A k a ≡ a → a.target ≡ at → Path A at target → Path A a.source target
+before_path A k a at target below here e path =
+    let P : ℕ → Type 0 = λ n. Path A n target in
+    goes a.source a.target target (k, below, here) (subst P (sym e) path)
+
+pub at_itself : (A : List Arrow) (k : ℕ) (d : Arrow) → k < length A → get_or A k (get_or A k d) ≡ get_or A k d
+at_itself [] k d h = absurd (omega arith)
+at_itself (x ∷ xs) zero d h = refl
+at_itself (x ∷ xs) (suc k) d h = at_itself xs k d (omega arith)

@@ -1,6 +1,7 @@
 -- Arrows between events: paths along them (this project's own).
 use Rattle.std.specs.Prelude.{ℕ, Bool, not, ◌&&◌, ◌==◌, List}
 use Rattle.std.specs.List.{Contains, list_any}
+use Rattle.ceu_tree.specs.Paths.{flag}
 use Rattle.ceu_bound.specs.declared.graph.Arrow.{Arrow}
 
 abbrev pub arrow : ℕ → ℕ → Arrow
@@ -17,3 +18,7 @@ is_member n = list_any (λ x. x == n)
 -- whether an arrow leads out of these events
 abbrev pub is_open : List ℕ → Arrow → Bool
 is_open reached a = is_member a.source reached && not (is_member a.target reached)
+
+-- whether an arrow leads out of the marked events
+abbrev pub leaks : List Bool → Arrow → Bool
+leaks marks a = flag a.source marks && not (flag a.target marks)

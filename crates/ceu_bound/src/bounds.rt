@@ -101,7 +101,8 @@ fn broken_loop(alloc: Global, kernel: &Kernel) -> Result<Option<Broken>, AllocEr
     let passing = passing_codes(alloc, kernel.codes.items())?;
     let loops = all_loops(alloc, kernel)?;
     let arrows = all_arrows(alloc, &loops)?;
-    first_broken(alloc, &passing, &arrows, &loops)
+    let events = kernel.events.items().len();
+    first_broken(alloc, &passing, &arrows, events, &loops)
 }
 
 // The bounds of a program whose loops break no rule.

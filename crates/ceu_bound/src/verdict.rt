@@ -82,6 +82,7 @@ pub fn all_loops<'k>(alloc: Global, kernel: &'k Kernel) -> Result<Vec<FoundLoop<
 fn leads_back(
     alloc: Global,
     arrows: &[Arrow],
+    events: usize,
     event: u32,
     emitted: &[u32],
 ) -> Result<bool, AllocError>
@@ -89,7 +90,7 @@ fn leads_back(
     ensures none { IfOk result (λ answer. answer ≡ false → (f : ℕ) → Contains emitted.now f → Path arrows.now f event → ⊥) }
 {
     for target in emitted {
-        if reaches(alloc, arrows, *target, event)? {
+        if reaches(alloc, arrows, events, *target, event)? {
             return Ok(true);
         }
     }
@@ -113,6 +114,7 @@ fn rule_where(broken: bool, rule: Rule) -> Option<Rule>
 fn paced_breaks(
     alloc: Global,
     arrows: &[Arrow],
+    events: usize,
     event: u32,
     found: &FoundLoop,
 ) -> Result<bool, AllocError>
@@ -121,7 +123,7 @@ fn paced_breaks(
 {
     let mut emitted = Vec::new(alloc);
     emit_in(found.body, &mut emitted)?;
-    leads_back(alloc, arrows, event, &emitted)
+    leads_back(alloc, arrows, events, event, &emitted)
 }
 
 // The rule that a loop breaks.
@@ -129,6 +131,7 @@ fn broken_rule(
     alloc: Global,
     passing: &[bool],
     arrows: &[Arrow],
+    events: usize,
     found: &FoundLoop,
 ) -> Result<Option<Rule>, AllocError>
     ensures { IfOk result (λ rule. verdict.IsVerdict passing.now arrows.now (seen found.now) rule) }
@@ -138,7 +141,7 @@ fn broken_rule(
     }
     match paced(found.kind, found.body) {
         Some(event) => {
-            let cyclic = paced_breaks(alloc, arrows, event, found)?;
+            let cyclic = paced_breaks(alloc, arrows, events, event, found)?;
             Ok(rule_where(cyclic, Rule::B2))
         }
         None => {
@@ -190,18 +193,19 @@ fn earlier(first: Option<Broken>, pos: Pos, rule: Option<Rule>) -> Option<Broken
     }
 }
 
-/// The first of the rules that these loops break, where `passing` says which codes may go on at once.
+/// The first of the rules that these loops break, where `passing` says which codes may go on at once, in a program with so many events.
 pub fn first_broken(
     alloc: Global,
     passing: &[bool],
     arrows: &[Arrow],
+    events: usize,
     loops: &[FoundLoop],
 ) -> Result<Option<Broken>, AllocError>
     ensures { IfOk result (λ first. verdict.IsFirstOf passing.now arrows.now (map seen loops.now) first) }
 {
     let mut first = None;
     for found in loops {
-        let rule = broken_rule(alloc, passing, arrows, found)?;
+        let rule = broken_rule(alloc, passing, arrows, events, found)?;
         first = earlier(first, found.pos, rule);
     }
     Ok(first)

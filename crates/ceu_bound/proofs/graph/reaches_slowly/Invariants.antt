@@ -1,5 +1,5 @@
 use Rattle.ceu_bound.proofs.GraphLaws.{Reached, open_count}
-use Rattle.ceu_bound.proofs.graph.reaches.Given as goal
+use Rattle.ceu_bound.proofs.graph.reaches_slowly.Given as goal
 
 abbrev pub invariant-search : goal.invariant-search
 invariant-search l = Reached l.arrows l.source l.reached.items

@@ -2,7 +2,7 @@ use Rattle.std.proofs.Common.{◌≡◌, ◌∙◌, ◌<◌, ◌++◌, ◌∷◌
 use Rattle.std.specs.Prelude.{Some, None, find}
 use Rattle.ceu_bound.specs.Graph.{is_member, is_open}
 use Rattle.ceu_bound.proofs.GraphLaws.{Reached, open_count, reached_first, reached_more, search_falls, path_closed}
-use Rattle.ceu_bound.proofs.graph.reaches.Goals as goal
+use Rattle.ceu_bound.proofs.graph.reaches_slowly.Goals as goal
 
 pub search-init : goal.search-init
 search-init c =
