@@ -37,8 +37,13 @@ fn every(
     event: u32,
     other: u32,
 ) -> Result<KNode, AllocError> {
-    let await_event = node(number + 1, line, col, KStmt::AwaitEvent(event, None));
-    let emission = node(number + 2, line, col + 11, KStmt::Emit(other, None));
+    let await_event = node(
+        number.wrapping_add(1),
+        line,
+        col,
+        KStmt::AwaitEvent(event, None),
+    );
+    let emission = node(number.wrapping_add(2), line, col, KStmt::Emit(other, None));
     let body = two(alloc, await_event, emission)?;
     Ok(node(number, line, col, KStmt::Loop(KLoop::Free, body)))
 }
