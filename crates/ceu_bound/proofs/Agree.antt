@@ -1,7 +1,6 @@
 -- Costs by tables that agree up to the cap agree up to the cap.
-use Rattle.std.proofs.Common.{◌≡◌, refl, sym, ap, ◌∙◌, ℕ, zero, suc, ◌+◌, ◌-◌, ◌*◌, max, Bool, true, false, not, ◌&&◌, if◌then◌else◌, List, [], ◌∷◌, ◌++◌, length, take, get_or, ◌<◌, arith}
+use Rattle.std.proofs.Common.{◌≡◌, refl, sym, ap, ◌∙◌, ℕ, ◌+◌, Bool, true, false, if◌then◌else◌, List, [], ◌∷◌, arith}
 use Rattle.std.specs.Prelude.{Option, Some, None}
-use Rattle.ceu_tree.specs.declared.kernel.KCode.{KCode}
 use Rattle.ceu_tree.specs.declared.kernel.KDecl.{KDecl}
 use Rattle.ceu_tree.specs.declared.kernel.KKind.{KKind}
 use Rattle.ceu_tree.specs.declared.kernel.KKind.TheVariants as kind
@@ -9,7 +8,7 @@ use Rattle.ceu_tree.specs.declared.kernel.KBlock.{KBlock, KBlock', Row_of-KNode,
 use Rattle.ceu_tree.specs.declared.kernel.KArm.{KArm, KArm'}
 use Rattle.ceu_tree.specs.declared.kernel.KStmt.{KStmt, Row_of-KArm, end_of-KArm, more_of-KArm, Row_of-KBlock, end_of-KBlock, more_of-KBlock, Emit, AwaitCode, Spawn, Do, If', Loop, Par'}
 use Rattle.ceu_tree.specs.Paths.{has_end, quick}
-use Rattle.ceu_tree.specs.Costs.{Cost, cost, nothing, plus, times, most, cost_at, paced, loop_times, loop_enter, loop_stay, without_one, stands_waiting, enter, enter_block, enter_arm, enter_nodes, enter_arms, enter_blocks, stay, stay_block, stay_arm, stay_nodes, stay_arms, stay_blocks, pools_stay}
+use Rattle.ceu_tree.specs.Costs.{Cost, cost, nothing, plus, times, most, cost_at, paced, loop_times, without_one, stands_waiting, enter, enter_block, enter_arm, enter_nodes, enter_arms, enter_blocks, stay, stay_block, stay_arm, stay_nodes, stay_arms, stay_blocks, pools_stay}
 use Rattle.ceu_paths.specs.Cap.{cap}
 use Rattle.ceu_paths.proofs.CapLaws.{same_plus, same_max, same_times}
 use Rattle.ceu_bound.specs.declared.tables.Part.{Part}

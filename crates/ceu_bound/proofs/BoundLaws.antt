@@ -1,11 +1,10 @@
 -- The bounds from filled tables, and the refusal from the first broken rule.
-use Rattle.std.proofs.Common.{◌≡◌, refl, sym, ap, subst, ◌∙◌, ℕ, ◌+◌, max, Bool, List, [], arith}
+use Rattle.std.proofs.Common.{◌≡◌, refl, sym, ap, subst, ◌∙◌, ◌+◌, max, []}
 use Rattle.std.specs.Prelude.{Some, None}
 use Rattle.ceu_base.specs.declared.kinds.Pos.{Pos}
-use Rattle.ceu_base.specs.declared.kinds.Rule.{Rule}
 use Rattle.ceu_tree.specs.declared.kernel.Kernel.{Kernel}
 use Rattle.ceu_tree.specs.Paths.{passes_from}
-use Rattle.ceu_tree.specs.Costs.{Cost, cost, plus, most, enter_block, stay_block, bounds}
+use Rattle.ceu_tree.specs.Costs.{cost, plus, most, enter_block, stay_block, bounds}
 use Rattle.ceu_paths.specs.Cap.{cap}
 use Rattle.ceu_paths.proofs.CapLaws.{same_plus, same_max}
 use Rattle.ceu_bound.specs.declared.tables.Tables.{Tables}
@@ -13,7 +12,7 @@ use Rattle.ceu_bound.specs.declared.verdict.Broken.{Broken}
 use Rattle.ceu_bound.specs.Parts.{pick, turn, costs}
 use Rattle.ceu_bound.specs.Measured as measured
 use Rattle.ceu_bound.specs.Filled.{AreTables, emitting, entering, staying}
-use Rattle.ceu_bound.specs.PhaseB.{all_loops, arrows, Breaks, NotAfter, IsFirstBreak, KeepsLoopRules}
+use Rattle.ceu_bound.specs.PhaseB.{all_loops, arrows, NotAfter, IsFirstBreak, KeepsLoopRules}
 use Rattle.ceu_bound.specs.Verdict.{IsFirstOf}
 use Rattle.ceu_bound.proofs.CostLaws.{pick_turn, pick_plus, pick_most}
 use Rattle.ceu_bound.proofs.Agree.{block_same, stay_block_same}

@@ -4,8 +4,7 @@ use Rattle.std.specs.List.{AllZip}
 use Rattle.std.proofs.lemmas.List.{map-append}
 use Rattle.std.proofs.lemmas.List.Elements.{AllZip-push}
 use Rattle.ceu_tree.specs.declared.kernel.KCode.{KCode}
-use Rattle.ceu_tree.specs.declared.kernel.KBlock.{KBlock}
-use Rattle.ceu_tree.specs.Costs.{Cost, cost_at, enter_block, stay_block, enters_from, stays_from}
+use Rattle.ceu_tree.specs.Costs.{Cost, enter_block, stay_block, enters_from, stays_from}
 use Rattle.ceu_paths.specs.Cap.{cap}
 use Rattle.ceu_paths.proofs.CapLaws.{cap_idem}
 use Rattle.ceu_bound.specs.declared.tables.Part.{Part}

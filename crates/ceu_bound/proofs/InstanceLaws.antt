@@ -1,5 +1,5 @@
 -- Instances of codes: the listed uses of a body are its uses, and the codes from the last to the first.
-use Rattle.std.proofs.Common.{◌≡◌, refl, sym, ap, ◌∙◌, ℕ, zero, suc, ◌+◌, ◌-◌, ◌*◌, ◌<◌, ◌≤◌, Bool, true, false, if◌then◌else◌, ◌==◌, ◌⊎◌, inl, inr, List, [], ◌∷◌, ◌++◌, map, length, drop, get_or, add-one, arith}
+use Rattle.std.proofs.Common.{◌≡◌, refl, sym, ap, ◌∙◌, ℕ, zero, suc, ◌+◌, ◌*◌, ◌<◌, ◌≤◌, Bool, true, false, if◌then◌else◌, ◌==◌, ◌⊎◌, inl, inr, List, [], ◌∷◌, map, length, drop, get_or, add-one, arith}
 use Rattle.std.proofs.lemmas.List.{drop_more}
 use Rattle.ceu_tree.specs.declared.kernel.KCode.{KCode}
 use Rattle.ceu_tree.specs.declared.kernel.KDecl.{KDecl}
@@ -14,7 +14,6 @@ use Rattle.ceu_paths.specs.Cap.{cap}
 use Rattle.ceu_paths.proofs.CapLaws.{cap_times, same_plus}
 use Rattle.ceu_paths.specs.Joined.{joined}
 use Rattle.ceu_paths.specs.Uses as listed
-use Rattle.ceu_paths.specs.declared.uses.CodeUse.{CodeUse}
 use Rattle.ceu_bound.specs.Using.{times_used}
 use Rattle.ceu_bound.proofs.Woken.{total_append}
 

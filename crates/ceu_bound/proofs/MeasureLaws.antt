@@ -1,5 +1,5 @@
 -- The costs of lists with one more statement, cap.
-use Rattle.std.proofs.Common.{◌≡◌, refl, sym, ap, ◌∙◌, ℕ, zero, suc, ◌+◌, ◌-◌, ◌*◌, ◌<◌, max, Bool, true, false, if◌then◌else◌, List, [], ◌∷◌, length, take, drop, get_or, arith}
+use Rattle.std.proofs.Common.{◌≡◌, refl, sym, ap, ◌∙◌, ℕ, ◌+◌, ◌-◌, ◌*◌, ◌<◌, max, Bool, true, false, if◌then◌else◌, List, [], ◌∷◌, length, take, drop, get_or, arith}
 use Rattle.std.specs.Prelude.{Option, Some, None}
 use Rattle.std.proofs.lemmas.List.{drop_more}
 use Rattle.ceu_tree.specs.declared.kernel.KNode.{KNode}
@@ -8,7 +8,7 @@ use Rattle.ceu_tree.specs.Greatest.{total}
 use Rattle.ceu_tree.specs.Paths.{has_end, quick_node}
 use Rattle.ceu_tree.specs.Costs.{node_waits}
 use Rattle.ceu_paths.specs.Cap.{cap}
-use Rattle.ceu_paths.proofs.CapLaws.{cap_times, cap_plus, same_plus, same_times, same_max}
+use Rattle.ceu_paths.proofs.CapLaws.{cap_times, same_plus}
 use Rattle.ceu_tree.proofs.TableLaws.{total_more}
 use Rattle.ceu_tree.proofs.Depths.{greatest_more}
 use Rattle.ceu_bound.specs.declared.tables.Tables.{Tables}

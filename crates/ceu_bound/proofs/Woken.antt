@@ -1,5 +1,5 @@
 -- What an emission costs, by the loops that it wakes.
-use Rattle.std.proofs.Common.{◌≡◌, refl, sym, ap, ◌∙◌, ℕ, zero, suc, ◌+◌, ◌*◌, ◌<◌, ◌≤◌, Bool, true, false, not, ◌&&◌, if◌then◌else◌, ◌==◌, List, [], ◌∷◌, ◌++◌, map, length, drop, get_or, add_assoc, arith}
+use Rattle.std.proofs.Common.{◌≡◌, refl, sym, ap, ◌∙◌, ℕ, zero, suc, ◌+◌, ◌*◌, ◌<◌, ◌≤◌, Bool, true, false, not, ◌&&◌, if◌then◌else◌, ◌==◌, List, [], ◌∷◌, ◌++◌, map, length, drop, add_assoc, arith}
 use Rattle.std.specs.Prelude.{Option, Some, None}
 use Rattle.std.specs.List.{list_all}
 use Rattle.ceu_base.specs.declared.kinds.Pos.{Pos}
@@ -17,7 +17,7 @@ use Rattle.ceu_tree.specs.Costs.{Cost, cost, nothing, plus, times, most, cost_at
 use Rattle.ceu_tree.proofs.CalmLaws.{paced_of_body}
 use Rattle.ceu_tree.proofs.WokenLaws.{body_cost_of}
 use Rattle.ceu_paths.specs.Cap.{cap}
-use Rattle.ceu_paths.proofs.CapLaws.{same_plus, same_times, cap_times, cap_idem}
+use Rattle.ceu_paths.proofs.CapLaws.{same_plus, same_times, cap_times}
 use Rattle.ceu_paths.specs.Loops.{TrailLoop, trail_loop, loops, block_loops, arm_loops, nodes_loops, arms_loops, blocks_loops}
 use Rattle.ceu_bound.specs.declared.tables.Part.{Part}
 use Rattle.ceu_bound.specs.declared.tables.Tables.{Tables}

@@ -1,5 +1,5 @@
 -- The verdict on a loop, and the first of the rules that loops break, as the code finds them.
-use Rattle.std.specs.Prelude.{◌≡◌, ℕ, ◌==◌, nat_lt, nat_le, Bool, if◌then◌else◌, List, Option, Some, None}
+use Rattle.std.specs.Prelude.{◌≡◌, ◌==◌, nat_lt, nat_le, Bool, if◌then◌else◌, List, Option, Some, None}
 use Rattle.std.specs.List.{Contains}
 use Rattle.ceu_base.specs.declared.kinds.Pos.{Pos}
 use Rattle.ceu_base.specs.declared.kinds.Rule.{Rule}

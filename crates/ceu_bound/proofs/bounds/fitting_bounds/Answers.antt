@@ -1,4 +1,4 @@
-use Rattle.std.proofs.Common.{◌≡◌, ◌∙◌}
+use Rattle.std.proofs.Common.{◌∙◌}
 use Rattle.ceu_bound.proofs.InstanceLaws.{counts_length}
 use Rattle.ceu_bound.proofs.bounds.fitting_bounds.Goals as goal
 

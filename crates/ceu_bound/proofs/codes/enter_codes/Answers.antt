@@ -1,4 +1,4 @@
-use Rattle.std.proofs.Common.{◌≡◌, ◌<◌, List, [], length, take, refl, ap, subst, arith}
+use Rattle.std.proofs.Common.{◌≡◌, ◌<◌, List, [], length, ap, subst, arith}
 use Rattle.std.specs.List.{AllZip}
 use Rattle.ceu_tree.specs.declared.kernel.KCode.{KCode}
 use Rattle.ceu_tree.specs.Costs.{enters_from}

@@ -1,4 +1,4 @@
-use Rattle.std.proofs.Common.{◌≡◌, ◌+◌, ◌*◌, drop}
+use Rattle.std.proofs.Common.{◌≡◌, drop}
 use Rattle.ceu_tree.specs.declared.kernel.KBlock.{out-KBlock}
 use Rattle.ceu_paths.specs.Found.{seen}
 use Rattle.ceu_tree.specs.Greatest.{total}

@@ -1,4 +1,4 @@
-use Rattle.std.proofs.Common.{◌≡◌, ◌<◌, ◌+◌, ◌*◌, length, take, map, ap, sym, arith}
+use Rattle.std.proofs.Common.{◌<◌, ◌*◌, length, map, ap, sym, arith}
 use Rattle.ceu_tree.specs.Greatest.{total}
 use Rattle.ceu_paths.specs.Found.{seen}
 use Rattle.ceu_paths.specs.declared.loops.FoundLoop.{FoundLoop}

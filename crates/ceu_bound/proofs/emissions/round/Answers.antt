@@ -1,4 +1,4 @@
-use Rattle.std.proofs.Common.{◌≡◌, ◌∙◌, ◌<◌, ◌+◌, length, take, get_or, ap, sym, add-one, arith}
+use Rattle.std.proofs.Common.{◌∙◌, ◌<◌, ◌+◌, length, take, ap, sym, add-one, arith}
 use Rattle.ceu_tree.specs.Greatest.{total}
 use Rattle.ceu_tree.proofs.TableLaws.{total_more}
 use Rattle.ceu_paths.specs.Cap.{cap}

@@ -1,4 +1,4 @@
-use Rattle.std.proofs.Common.{◌≡◌, ◌∙◌, ◌<◌, ◌+◌, ◌-◌, List, ℕ, refl, length, get_or, ap, sym, subst, add-one, arith}
+use Rattle.std.proofs.Common.{◌≡◌, ◌∙◌, ◌+◌, ◌-◌, List, ℕ, refl, length, get_or, ap, sym, subst, add-one, arith}
 use Rattle.ceu_tree.specs.Greatest.{total}
 use Rattle.ceu_tree.specs.Costs.{emissions}
 use Rattle.ceu_paths.specs.Cap.{cap}

@@ -1,4 +1,4 @@
-use Rattle.std.proofs.Common.{◌≡◌, ◌<◌, length, get_or, arith}
+use Rattle.std.proofs.Common.{◌<◌, length, get_or, arith}
 use Rattle.ceu_bound.specs.declared.graph.Arrow.{Arrow}
 use Rattle.ceu_bound.specs.Graph.{stays}
 use Rattle.ceu_bound.proofs.GraphLaws.{before_path, at_itself}

@@ -1,4 +1,4 @@
-use Rattle.std.proofs.Common.{◌≡◌, ◌∙◌, ◌<◌, ◌++◌, ◌∷◌, [], true, false, List, ℕ, refl, ap, sym, subst}
+use Rattle.std.proofs.Common.{◌≡◌, ◌<◌, ◌∷◌, [], List, ℕ, sym, subst}
 use Rattle.std.specs.Prelude.{Some, None, find}
 use Rattle.ceu_bound.specs.Graph.{is_member, is_open}
 use Rattle.ceu_bound.proofs.GraphLaws.{Reached, open_count, reached_first, reached_more, search_falls, path_closed}

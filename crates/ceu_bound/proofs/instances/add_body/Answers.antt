@@ -1,4 +1,4 @@
-use Rattle.std.proofs.Common.{◌≡◌, ◌∙◌, ◌+◌, ◌*◌, get_or, ap, sym}
+use Rattle.std.proofs.Common.{◌≡◌, ◌∙◌, ◌+◌, ◌*◌, get_or, ap}
 use Rattle.ceu_tree.specs.Greatest.{total}
 use Rattle.ceu_paths.specs.Cap.{cap}
 use Rattle.ceu_paths.specs.Uses as listed

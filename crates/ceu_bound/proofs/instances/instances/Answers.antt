@@ -1,4 +1,4 @@
-use Rattle.std.proofs.Common.{◌≡◌, ◌∙◌, ◌<◌, ◌≤◌, ◌+◌, ◌-◌, ℕ, length, get_or, ap, sym, arith}
+use Rattle.std.proofs.Common.{◌≡◌, ◌∙◌, ◌<◌, ◌+◌, ◌-◌, length, get_or, ap, sym, arith}
 use Rattle.ceu_tree.specs.Costs.{instances_from}
 use Rattle.ceu_paths.specs.Cap.{cap}
 use Rattle.ceu_bound.proofs.InstanceLaws.{held_from, instances_length, instances_step, map_by_get}

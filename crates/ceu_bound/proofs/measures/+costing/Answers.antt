@@ -1,7 +1,7 @@
-use Rattle.std.proofs.Common.{◌≡◌, ◌∙◌, ◌<◌, ◌+◌, ◌-◌, ◌*◌, length, take, drop, get_or, ap, sym, add-one, arith}
+use Rattle.std.proofs.Common.{◌≡◌, ◌∙◌, ◌<◌, ◌+◌, ◌-◌, ◌*◌, length, ap, sym, add-one, arith}
 use Rattle.ceu_paths.specs.Cap.{cap}
 use Rattle.ceu_tree.specs.Paths.{has_end, quick_node}
-use Rattle.ceu_tree.specs.Costs.{loop_times, paced, node_waits}
+use Rattle.ceu_tree.specs.Costs.{loop_times, paced}
 use Rattle.ceu_tree.proofs.TableLaws.{total_more}
 use Rattle.ceu_bound.specs.Measured.{unless_paced, enter_stmt, enter_block, enter_list, enter_branch, stay_stmt, stay_block, stay_list}
 use Rattle.ceu_bound.proofs.CostLaws.{enter_of_loop, stay_of_loop, enter_none, stay_none}

@@ -1,4 +1,4 @@
-use Rattle.std.proofs.Common.{◌≡◌, ◌∙◌, ◌<◌, ◌+◌, ◌++◌, ◌∷◌, [], List, length, take, map, ap, sym, subst, arith}
+use Rattle.std.proofs.Common.{◌∙◌, ◌<◌, ◌+◌, ◌++◌, ◌∷◌, [], List, length, take, map, ap, sym, subst, arith}
 use Rattle.std.specs.Prelude.{Option}
 use Rattle.ceu_paths.specs.Loops.{TrailLoop}
 use Rattle.ceu_paths.specs.Found.{seen}
