@@ -1,7 +1,6 @@
 -- One level of what a statement costs, in one part.
-use Rattle.std.proofs.Common.{◌≡◌, refl, sym, ap, ◌∙◌, ℕ, zero, suc, ◌+◌, ◌-◌, ◌*◌, max, Bool, true, false, if◌then◌else◌, List, [], ◌∷◌, map, arith}
+use Rattle.std.proofs.Common.{◌≡◌, refl, ap, ◌∙◌, ℕ, zero, suc, ◌+◌, ◌-◌, ◌*◌, max, Bool, true, false, if◌then◌else◌, List, [], ◌∷◌, arith}
 use Rattle.std.specs.Prelude.{Option, Some, None}
-use Rattle.std.specs.List.{list_any}
 use Rattle.ceu_tree.specs.declared.kernel.KExp.{KExp}
 use Rattle.ceu_tree.specs.declared.kernel.KDecl.{KDecl}
 use Rattle.ceu_tree.specs.declared.kernel.KKind.{KKind}
@@ -79,11 +78,11 @@ total_ext f g e (x ∷ xs) = ap (λ k. k + total f xs) (e x) ∙ ap (λ k. g x +
 
 pub enter_of_nothing : (T : Tables) (m : ℕ) → enter_stmt T m k.Nothing ≡ 0
 unfolding enter_stmt
-enter_of_nothing T m = ap (pick T.part) (enters.enter_of_nothing T.passing.items (costs T.events.items) (costs T.entering.items) m ) ∙ pick_none T.part
+enter_of_nothing T m = ap (pick T.part) (enters.enter_of_nothing T.passing.items (costs T.events.items) (costs T.entering.items) m) ∙ pick_none T.part
 
 pub stay_of_nothing : (T : Tables) (m : ℕ) → stay_stmt T m k.Nothing ≡ 0
 unfolding stay_stmt
-stay_of_nothing T m = ap (pick T.part) (stays.stay_of_nothing T.passing.items (costs T.events.items) (costs T.entering.items) (costs T.staying.items) m ) ∙ pick_none T.part
+stay_of_nothing T m = ap (pick T.part) (stays.stay_of_nothing T.passing.items (costs T.events.items) (costs T.entering.items) (costs T.staying.items) m) ∙ pick_none T.part
 
 pub enter_of_assign : (T : Tables) (m : ℕ) (l : _) (e : KExp) → enter_stmt T m (k.Assign l e) ≡ 0
 unfolding enter_stmt
@@ -135,11 +134,11 @@ stay_of_await_event T m n t = ap (pick T.part) (stays.stay_of_await_event T.pass
 
 pub enter_of_forever : (T : Tables) (m : ℕ) → enter_stmt T m k.Forever ≡ 0
 unfolding enter_stmt
-enter_of_forever T m = ap (pick T.part) (enters.enter_of_forever T.passing.items (costs T.events.items) (costs T.entering.items) m ) ∙ pick_none T.part
+enter_of_forever T m = ap (pick T.part) (enters.enter_of_forever T.passing.items (costs T.events.items) (costs T.entering.items) m) ∙ pick_none T.part
 
 pub stay_of_forever : (T : Tables) (m : ℕ) → stay_stmt T m k.Forever ≡ 0
 unfolding stay_stmt
-stay_of_forever T m = ap (pick T.part) (stays.stay_of_forever T.passing.items (costs T.events.items) (costs T.entering.items) (costs T.staying.items) m ) ∙ pick_none T.part
+stay_of_forever T m = ap (pick T.part) (stays.stay_of_forever T.passing.items (costs T.events.items) (costs T.entering.items) (costs T.staying.items) m) ∙ pick_none T.part
 
 pub enter_of_await_code : (T : Tables) (m : ℕ) (c : ℕ) (es : List KExp) (f : ℕ) (t : _) → enter_stmt T m (k.AwaitCode c es f t) ≡ entry c T.entering.items
 unfolding enter_stmt
@@ -256,7 +255,7 @@ stay_of_loop T m kind b =
     ap (pick T.part) (stays.stay_of_loop T.passing.items (costs T.events.items) (costs T.entering.items) (costs T.staying.items) m kind b) ∙
     pick_unless T.part (paced kind b) (plus (spec.stay_block T.passing.items (costs T.events.items) (costs T.entering.items) (costs T.staying.items) b) (times (loop_times T.passing.items m kind b) (spec.enter_block T.passing.items (costs T.events.items) (costs T.entering.items) b))) ∙
     ap (unless_paced (paced kind b)) (pick_plus T.part (spec.stay_block T.passing.items (costs T.events.items) (costs T.entering.items) (costs T.staying.items) b) (times (loop_times T.passing.items m kind b) (spec.enter_block T.passing.items (costs T.events.items) (costs T.entering.items) b)) ∙
-        ap (λ k. pick T.part (spec.stay_block T.passing.items (costs T.events.items) (costs T.entering.items) (costs T.staying.items) b) + k) (pick_times T.part (loop_times T.passing.items m kind b) (spec.enter_block T.passing.items (costs T.events.items) (costs T.entering.items) b)))
+    ap (λ k. pick T.part (spec.stay_block T.passing.items (costs T.events.items) (costs T.entering.items) (costs T.staying.items) b) + k) (pick_times T.part (loop_times T.passing.items m kind b) (spec.enter_block T.passing.items (costs T.events.items) (costs T.entering.items) b)))
 
 branch_pick : (T : Tables) (b : KBlock) → pick T.part (spec.enter_branch T.passing.items (costs T.events.items) (costs T.entering.items) b) ≡ enter_branch T b
 unfolding enter_block
@@ -325,8 +324,9 @@ unfolding stay_list stay_stmt enter_list
 stay_more T s ss =
     pick_if T.part (node_waits s) (most (plus (spec.stay_node T.passing.items (costs T.events.items) (costs T.entering.items) (costs T.staying.items) s) (spec.enter_list T.passing.items (costs T.events.items) (costs T.entering.items) ss)) (spec.stay_list T.passing.items (costs T.events.items) (costs T.entering.items) (costs T.staying.items) ss)) (spec.stay_list T.passing.items (costs T.events.items) (costs T.entering.items) (costs T.staying.items) ss) ∙
     ap (λ k. if node_waits s then k else pick T.part (spec.stay_list T.passing.items (costs T.events.items) (costs T.entering.items) (costs T.staying.items) ss))
-        (pick_most T.part (plus (spec.stay_node T.passing.items (costs T.events.items) (costs T.entering.items) (costs T.staying.items) s) (spec.enter_list T.passing.items (costs T.events.items) (costs T.entering.items) ss)) (spec.stay_list T.passing.items (costs T.events.items) (costs T.entering.items) (costs T.staying.items) ss) ∙
-        ap (λ k. max k (pick T.part (spec.stay_list T.passing.items (costs T.events.items) (costs T.entering.items) (costs T.staying.items) ss))) (pick_plus T.part (spec.stay_node T.passing.items (costs T.events.items) (costs T.entering.items) (costs T.staying.items) s) (spec.enter_list T.passing.items (costs T.events.items) (costs T.entering.items) ss)))
+    (pick_most T.part (plus (spec.stay_node T.passing.items (costs T.events.items) (costs T.entering.items) (costs T.staying.items) s) (spec.enter_list T.passing.items (costs T.events.items) (costs T.entering.items) ss)) (spec.stay_list T.passing.items (costs T.events.items) (costs T.entering.items) (costs T.staying.items) ss) ∙
+    ap (λ k. max k (pick T.part (spec.stay_list T.passing.items (costs T.events.items) (costs T.entering.items) (costs T.staying.items) ss))) (pick_plus T.part (spec.stay_node T.passing.items (costs T.events.items) (costs T.entering.items) (costs T.staying.items) s) (spec.enter_list T.passing.items (costs T.events.items) (costs T.entering.items) ss)))
 
 pub ruleset entered = (enter_of_nothing, enter_of_assign, enter_of_out, enter_of_emit, enter_of_await_in, enter_of_await_time, enter_of_await_event, enter_of_forever, enter_of_await_code, enter_of_spawn, enter_of_kill, enter_of_unset, enter_of_async, enter_of_finalize, enter_of_escape, enter_of_break, enter_of_continue, enter_of_do, enter_of_arm, enter_of_if, enter_of_loop, enter_of_par, enter_of_block)
+
 pub ruleset stayed = (stay_of_nothing, stay_of_assign, stay_of_out, stay_of_emit, stay_of_await_in, stay_of_await_time, stay_of_await_event, stay_of_forever, stay_of_await_code, stay_of_spawn, stay_of_kill, stay_of_unset, stay_of_async, stay_of_finalize, stay_of_escape, stay_of_break, stay_of_continue, stay_of_do, stay_of_arm, stay_of_if, stay_of_loop, stay_of_par, stay_of_block)

@@ -2,3 +2,12 @@ pub mod CellLaws
 pub mod WeightSums
 pub mod CostLaws
 pub mod MeasureLaws
+pub mod GraphLaws
+pub mod Agree
+pub mod CodeTables
+pub mod Woken
+pub mod WakeLaws
+pub mod InstanceLaws
+pub mod Rounds
+pub mod VerdictLaws
+pub mod BoundLaws

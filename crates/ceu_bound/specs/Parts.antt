@@ -1,6 +1,7 @@
 -- A cost has two parts, turns and levels, which the code measures one after the other.
-use Rattle.std.specs.Prelude.{ℕ, List, map}
-use Rattle.ceu_tree.specs.Costs.{Cost, cost}
+use Rattle.std.specs.Prelude.{◌≡◌, ℕ, List, map}
+use Rattle.ceu_tree.specs.Costs.{Cost, cost, cost_at}
+use Rattle.ceu_paths.specs.Cap.{cap}
 use Rattle.ceu_bound.specs.declared.tables.Part.{Part}
 use Rattle.ceu_bound.specs.declared.tables.Part.TheVariants as part
 
@@ -24,3 +25,10 @@ both n = cost n n
 
 abbrev pub costs : List ℕ → List Cost
 costs = map both
+
+-- the same number in a part, up to the cap
+abbrev pub Same : Part → Cost → Cost → Type 0
+Same w a b = cap (pick w a) ≡ cap (pick w b)
+
+abbrev pub SameTables : Part → List Cost → List Cost → Type 0
+SameTables w A B = (k : ℕ) → Same w (cost_at k A) (cost_at k B)

@@ -8,12 +8,12 @@ pub enum Part {
 }
 
 /// Which codes an await may pass at once, what an emission of each event costs, and what each code costs from its start and where it
-/// stood waiting, each cut at 4,294,967,295.
+/// stood waiting, each capped at 4,294,967,296.
 #[derive(Drop)]
 pub struct Tables {
     pub part: Part,
     pub passing: Vec<bool>,
-    pub events: Vec<u32>,
-    pub entering: Vec<u32>,
-    pub staying: Vec<u32>,
+    pub events: Vec<u64>,
+    pub entering: Vec<u64>,
+    pub staying: Vec<u64>,
 }

@@ -5,3 +5,4 @@ pub mod UseLists
 pub mod WayLaws
 pub mod PoolLaws
 pub mod TurnLaws
+pub mod CapLaws

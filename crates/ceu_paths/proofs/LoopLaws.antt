@@ -7,7 +7,7 @@ use Rattle.ceu_tree.specs.declared.kernel.KBlock.{KBlock, KBlock', out-KBlock, R
 use Rattle.ceu_tree.specs.declared.kernel.KStmt as k
 use Rattle.ceu_tree.specs.declared.kernel.KStmt.{KStmt, out-KStmt, Row_of-KArm, end_of-KArm, more_of-KArm, items-the_row-KArm, items_hidden-the_row-KArm-0, items_hidden-the_row-KBlock-1, Row_of-KBlock, end_of-KBlock, more_of-KBlock, items-the_row-KBlock}
 use Rattle.ceu_tree.specs.declared.kernel.KStmt.TheBlock.{hidden-the_row-KArm-0, hidden-the_row-KBlock-1}
-use Rattle.ceu_paths.specs.Loops.{TrailLoop, trail_loop, loops, block_loops, arm_loops, nodes_loops, arms_loops, blocks_loops, node_loops}
+use Rattle.ceu_paths.specs.Loops.{trail_loop, loops, block_loops, arm_loops, nodes_loops, arms_loops, blocks_loops, node_loops}
 use Rattle.ceu_paths.specs.Joined.{joined}
 use denote.Hole.Carrier
 

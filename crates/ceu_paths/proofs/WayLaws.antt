@@ -1,11 +1,11 @@
 -- Exits of a list with one more item, and flags by code number.
-use Rattle.std.proofs.Common.{◌≡◌, refl, sym, ap, ◌∙◌, ℕ, zero, suc, ◌+◌, ◌<◌, ◌≤◌, Bool, true, false, not, ◌&&◌, ◌||◌, cond, if◌then◌else◌, List, [], ◌∷◌, ◌++◌, map, length, take, drop, get_or, append_assoc, arith}
+use Rattle.std.proofs.Common.{◌≡◌, refl, sym, ap, ◌∙◌, ℕ, zero, suc, ◌+◌, ◌<◌, ◌≤◌, Bool, true, false, ◌&&◌, ◌||◌, if◌then◌else◌, List, [], ◌∷◌, ◌++◌, length, take, drop, get_or, append_assoc, arith}
 use Rattle.std.specs.List.{filter, list_any}
 use Rattle.std.proofs.lemmas.List.{append-nil, drop_more}
 use Rattle.ceu_tree.specs.declared.kernel.KNode.{KNode}
 use Rattle.ceu_tree.specs.declared.kernel.KBlock.{KBlock}
 use Rattle.ceu_tree.specs.declared.kernel.KCode.{KCode}
-use Rattle.ceu_tree.specs.Paths.{Way, ToEnd, ToEscape, ToBreak, ToContinue, is_end, has_end, without_end, flag, gathered, seq_ways, quick_block, quick_node, quick_list, all_blocks_end, passes, passes_from}
+use Rattle.ceu_tree.specs.Paths.{Way, ToEnd, ToEscape, ToBreak, ToContinue, has_end, without_end, flag, gathered, seq_ways, quick_block, quick_node, quick_list, all_blocks_end, passes, passes_from}
 use Rattle.ceu_paths.specs.declared.ways.Exit.{Exit}
 use Rattle.ceu_paths.specs.Ways.{way, ways}
 
@@ -81,4 +81,5 @@ flag_beyond (x ∷ xs) zero h = absurd (omega arith)
 flag_beyond (x ∷ xs) (suc k) h = flag_beyond xs k (omega arith)
 
 pub ruleset flags = (flag_within, flag_beyond)
+
 pub ruleset steps = (any_more, any_at)

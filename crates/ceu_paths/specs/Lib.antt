@@ -1,3 +1,4 @@
+pub mod Cap
 pub mod Joined
 pub mod Loops
 pub mod Found

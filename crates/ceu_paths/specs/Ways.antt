@@ -1,6 +1,5 @@
 -- The exits as the code holds them, and which of them go out of a statement.
-use Rattle.std.specs.Prelude.{ℕ, Bool, false, not, ◌||◌, List, map}
-use Rattle.ceu_tree.specs.Paths as paths
+use Rattle.std.specs.Prelude.{Bool, not, ◌||◌, List, map}
 use Rattle.ceu_tree.specs.Paths.{Way, ToEnd, ToEscape, ToBreak, ToContinue, is_end, is_escape, is_break, is_continue}
 use Rattle.ceu_paths.specs.declared.ways.Exit.{Exit}
 use Rattle.ceu_paths.specs.declared.ways.Exit.TheVariants as exit

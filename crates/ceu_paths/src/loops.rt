@@ -19,7 +19,12 @@ pub struct FoundLoop<'k> {
 
 #[cycle(find)]
 #[tactic(auto, using(crate::proofs::LoopLaws::loop_lists, crate::proofs::Lists::lists, ceu_tree::proofs::Sizes::sizes))]
-fn find_in_stmt<'k>(number: u32, pos: Pos, stmt: &'k KStmt, found: &mut Vec<FoundLoop<'k>>) -> Result<(), AllocError>
+fn find_in_stmt<'k>(
+    number: u32,
+    pos: Pos,
+    stmt: &'k KStmt,
+    found: &mut Vec<FoundLoop<'k>>,
+) -> Result<(), AllocError>
     ensures { OnOk result (map seen found.new.items ≡ map seen found.old.items ++ loops number pos stmt.now) }
 {
     match stmt {
@@ -99,7 +104,10 @@ fn find_in_arms<'k>(arms: &'k [KArm], found: &mut Vec<FoundLoop<'k>>) -> Result<
 
 #[cycle(find)]
 #[tactic(auto, using(crate::proofs::LoopLaws::loop_lists, crate::proofs::Lists::lists, ceu_tree::proofs::Sizes::sizes))]
-fn find_in_blocks<'k>(blocks: &'k [KBlock], found: &mut Vec<FoundLoop<'k>>) -> Result<(), AllocError>
+fn find_in_blocks<'k>(
+    blocks: &'k [KBlock],
+    found: &mut Vec<FoundLoop<'k>>,
+) -> Result<(), AllocError>
     ensures { OnOk result (map seen found.new.items ≡ map seen found.old.items ++ joined block_loops blocks.now) }
 {
     for block in blocks {

@@ -1,11 +1,14 @@
 // How many turns a loop makes, where its text says so.
 ghost use Rattle.std.specs.Prelude.{◌≡◌, ◌+◌, ◌-◌, ◌≤◌, ◌+ℤ◌, ◌-ℤ◌, pos, option_map};
 ghost use Rattle.ceu_base.specs.Values.{of_test};
-ghost use Rattle.ceu_tree.specs.Cut.{cut};
 ghost use Rattle.ceu_tree.specs.Paths as spec;
+ghost use Rattle.ceu_paths.specs.Cap.{cap};
 ghost use Rattle.ceu_paths.specs.Turns.{excluded};
 
 use ceu_tree::{KExpNode, KLoop};
+
+/// What numbers are capped at.
+pub const CAP: u64 = 0x1_0000_0000;
 
 fn literal(node: &KExpNode) -> Option<i128>
     ensures { result ≡ spec.literal node.now }
@@ -27,37 +30,37 @@ fn excluded(left_out: bool) -> u64
 }
 
 // The numbers from one to another that lies so far above it, of which an open end isn't one.
-fn shortened(apart: u64, open_a: bool, open_b: bool) -> u32
+fn shortened(apart: u64, open_a: bool, open_b: bool) -> u64
     requires { apart ≤ 4294967296 }
-    ensures { result ≡ cut (apart + 1 - (excluded open_a + excluded open_b)) }
+    ensures { result ≡ cap (apart + 1 - (excluded open_a + excluded open_b)) }
 {
     let length = (apart + 1).saturating_sub(excluded(open_a) + excluded(open_b));
-    u32::try_from(length).unwrap_or(u32::MAX)
+    length.min(CAP)
 }
 
-// The numbers from a to b, of which an open end isn't one, cut at 4,294,967,295.
-fn length_between(a: i128, open_a: bool, b: i128, open_b: bool) -> u32
-    ensures { result ≡ cut (spec.length_of ((b -ℤ of_test open_b) -ℤ (a +ℤ of_test open_a) +ℤ pos 1)) }
+// The numbers from a to b, of which an open end isn't one, capped at 4,294,967,296.
+fn length_between(a: i128, open_a: bool, b: i128, open_b: bool) -> u64
+    ensures { result ≡ cap (spec.length_of ((b -ℤ of_test open_b) -ℤ (a +ℤ of_test open_a) +ℤ pos 1)) }
 {
     let Some(apart) = b.checked_sub(a) else {
-        return if a < b { u32::MAX } else { 0 };
+        return if a < b { CAP } else { 0 };
     };
     if apart < 0 {
         return 0;
     }
     if apart > 0x1_0000_0000 {
-        return u32::MAX;
+        return CAP;
     }
     shortened(apart as u64, open_a, open_b)
 }
 
-/// The turns of `loop/N` and of a range with constant ends, cut at 4,294,967,295.
-pub fn constant_bound(kind: &KLoop) -> Option<u32>
-    ensures { result ≡ option_map cut (spec.constant_bound kind.now) }
+/// The turns of `loop/N` and of a range with constant ends, capped at 4,294,967,296.
+pub fn constant_bound(kind: &KLoop) -> Option<u64>
+    ensures { result ≡ option_map cap (spec.constant_bound kind.now) }
 {
     match kind {
         KLoop::Free => None,
-        KLoop::Times(_, turns) => Some(*turns),
+        KLoop::Times(_, turns) => Some(u64::from(*turns)),
         KLoop::Range(_, _, _, open_a, a, b, open_b) => {
             let a = literal(&a.node)?;
             let b = literal(&b.node)?;

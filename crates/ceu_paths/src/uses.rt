@@ -43,7 +43,10 @@ fn uses_in_stmt(stmt: &KStmt, found: &mut Vec<CodeUse>) -> Result<(), AllocError
 {
     match stmt {
         KStmt::AwaitCode(code, _, _, _) => {
-            found.push(CodeUse { code: *code, times: 1 })?;
+            found.push(CodeUse {
+                code: *code,
+                times: 1,
+            })?;
             Ok(())
         }
         KStmt::Do(_, body) => uses_in(body, found),

@@ -127,7 +127,12 @@ fn add_end(exits: &mut Vec<Exit>, ends: bool) -> Result<(), AllocError>
 }
 
 // The exits of a statement with these inside it, and its end where it has one.
-fn outside(alloc: Global, inside: Inside, inner: &[Exit], ends: bool) -> Result<Vec<Exit>, AllocError>
+fn outside(
+    alloc: Global,
+    inside: Inside,
+    inner: &[Exit],
+    ends: bool,
+) -> Result<Vec<Exit>, AllocError>
     ensures { IfOk result (λ exits. ways exits.items ≡ filter (goes_out inside) (ways inner.now) ++ end_if ends) }
 {
     let mut exits = Vec::new(alloc);
@@ -151,7 +156,12 @@ fn runs_out(node: u32, kind: &KLoop, inner: &[Exit]) -> bool
     }
 }
 
-fn loop_exits(alloc: Global, node: u32, kind: &KLoop, inner: &[Exit]) -> Result<Vec<Exit>, AllocError>
+fn loop_exits(
+    alloc: Global,
+    node: u32,
+    kind: &KLoop,
+    inner: &[Exit],
+) -> Result<Vec<Exit>, AllocError>
     ensures { IfOk result (λ exits. ways exits.items ≡ spec.loop_ways node kind.now (ways inner.now)) }
 {
     let ends = has_exit(inner, Exit::Break(node)) || runs_out(node, kind, inner);
@@ -193,7 +203,11 @@ fn flag(passing: &[bool], code: u32) -> bool
     ensures { result ≡ spec.flag code passing.now }
 {
     let at = code as usize;
-    if at < passing.len() { passing[at] } else { false }
+    if at < passing.len() {
+        passing[at]
+    } else {
+        false
+    }
 }
 
 // The exits of the branches together, and whether each of them may end.
@@ -215,7 +229,12 @@ fn par_exits(alloc: Global, kind: ParKind, branches: Branches) -> Result<Vec<Exi
 
 #[cycle(ways)]
 #[tactic(auto, using(ceu_tree::proofs::PathLaws::paths, crate::proofs::Lists::lists, ceu_tree::proofs::Sizes::sizes))]
-pub fn stmt_exits(alloc: Global, passing: &[bool], node: u32, stmt: &KStmt) -> Result<Vec<Exit>, AllocError>
+pub fn stmt_exits(
+    alloc: Global,
+    passing: &[bool],
+    node: u32,
+    stmt: &KStmt,
+) -> Result<Vec<Exit>, AllocError>
     ensures { IfOk result (λ exits. ways exits.items ≡ spec.quick passing.now node stmt.now) }
 {
     match stmt {
@@ -307,7 +326,11 @@ fn arms_exits(alloc: Global, passing: &[bool], arms: &[KArm]) -> Result<Vec<Exit
 
 #[cycle(ways)]
 #[tactic(auto, using(ceu_tree::proofs::PathLaws::paths, crate::proofs::Lists::lists, ceu_tree::proofs::Sizes::sizes))]
-fn branches_exits(alloc: Global, passing: &[bool], branches: &[KBlock]) -> Result<Branches, AllocError>
+fn branches_exits(
+    alloc: Global,
+    passing: &[bool],
+    branches: &[KBlock],
+) -> Result<Branches, AllocError>
     ensures exits { IfOk result (λ found. ways found.exits.items ≡ gathered (spec.quick_block passing.now) branches.now) }
     ensures all_end { IfOk result (λ found. found.all_end ≡ spec.all_blocks_end passing.now branches.now) }
 {

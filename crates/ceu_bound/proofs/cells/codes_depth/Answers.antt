@@ -1,4 +1,4 @@
-use Rattle.std.proofs.Common.{◌≡◌, ◌<◌, length, ap, sym, add-one, arith}
+use Rattle.std.proofs.Common.{◌<◌, length, ap, sym, add-one, arith}
 use Rattle.std.proofs.lemmas.Grind.{common_steps}
 use Rattle.ceu_tree.specs.Depth.{block_depth}
 use Rattle.ceu_tree.specs.declared.kernel.KCode.{KCode}

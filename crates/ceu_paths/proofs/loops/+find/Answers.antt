@@ -1,4 +1,4 @@
-use Rattle.std.proofs.Common.{◌≡◌, ◌<◌, length, take, map, ap, sym, append_assoc, add-one, arith}
+use Rattle.std.proofs.Common.{◌<◌, length, take, map, ap, sym, append_assoc, add-one, arith}
 use Rattle.ceu_paths.specs.Loops.{node_loops, arm_loops, block_loops}
 use Rattle.ceu_paths.specs.Joined.{joined}
 use Rattle.ceu_paths.specs.Found.{seen}

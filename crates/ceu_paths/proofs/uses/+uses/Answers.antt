@@ -1,4 +1,4 @@
-use Rattle.std.proofs.Common.{◌≡◌, ◌<◌, length, take, ap, sym, append_assoc, add-one, arith}
+use Rattle.std.proofs.Common.{◌<◌, length, take, ap, sym, append_assoc, add-one, arith}
 use Rattle.ceu_paths.specs.Uses.{node_uses, arm_uses, block_uses}
 use Rattle.ceu_paths.specs.Joined.{joined}
 use Rattle.ceu_paths.proofs.Lists.{joined_more}

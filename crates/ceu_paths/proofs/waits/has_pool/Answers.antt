@@ -1,4 +1,4 @@
-use Rattle.std.proofs.Common.{◌≡◌, ◌∙◌, ◌<◌, ◌||◌, false, length, take, get_or, ap, sym, add-one, arith}
+use Rattle.std.proofs.Common.{◌≡◌, ◌∙◌, ◌<◌, ◌||◌, false, length, get_or, ap, sym, add-one, arith}
 use Rattle.ceu_tree.specs.declared.kernel.KDecl.{KDecl}
 use Rattle.ceu_paths.specs.Pools.{is_pool}
 use Rattle.ceu_paths.proofs.PoolLaws.{pool_more}

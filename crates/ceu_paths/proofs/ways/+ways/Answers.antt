@@ -1,6 +1,6 @@
-use Rattle.std.proofs.Common.{◌≡◌, ◌∙◌, ◌<◌, ◌+◌, ◌++◌, ◌&&◌, refl, true, false, length, take, drop, ap, sym, add-one, arith}
+use Rattle.std.proofs.Common.{◌≡◌, ◌<◌, ◌+◌, ◌++◌, true, false, length, drop, ap, sym, add-one, arith}
 use Rattle.std.proofs.lemmas.List.{map-append}
-use Rattle.ceu_tree.specs.Paths.{has_end, seq_ways, gathered, quick_arm, quick_block, quick_node, quick_list, all_blocks_end}
+use Rattle.ceu_tree.specs.Paths.{has_end, seq_ways, quick_arm, quick_block, quick_node, quick_list}
 use Rattle.ceu_paths.specs.Ways.{way, ways}
 use Rattle.ceu_paths.proofs.WayLaws.{gathered_more, all_end_more, list_step, goes_on, stops}
 use Rattle.ceu_paths.proofs.ways.+ways.Goals as goal
@@ -21,8 +21,9 @@ branches_exits-loop-branch-preserved t c =
     let here = ap (quick_block c.args.passing.now) (sym c.branch-item.is) in
     let both = map-append way c.loop-branch.exits.items c.in_ok-here.here.items in
     rw add-one (
-        cc (more, here, both, c.loop-branch.invariant.0, c.in_ok-here.ensures, c.deref.ensures.value, c.in_ok-extend_from_slice.ensures.items),
-        cc (more_end, here, c.loop-branch.invariant.1, c.in_ok-here.ensures, c.deref-in-loop-branch.ensures.value, c.has_exit-ends.ensures, c.both-all_end.ensures))
+      cc (more, here, both, c.loop-branch.invariant.0, c.in_ok-here.ensures, c.deref.ensures.value, c.in_ok-extend_from_slice.ensures.items),
+      cc (more_end, here, c.loop-branch.invariant.1, c.in_ok-here.ensures, c.deref-in-loop-branch.ensures.value, c.has_exit-ends.ensures, c.both-all_end.ensures),
+    )
 
 pub nodes_exits-returns-then-not-has_exit : goal.nodes_exits-returns-then-not-has_exit
 nodes_exits-returns-then-not-has_exit t c =

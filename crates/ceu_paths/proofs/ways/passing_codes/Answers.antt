@@ -1,4 +1,4 @@
-use Rattle.std.proofs.Common.{◌≡◌, ◌<◌, ◌++◌, ◌∷◌, [], length, take, ap, sym, add-one, arith}
+use Rattle.std.proofs.Common.{◌<◌, [], length, take, ap, sym, add-one, arith}
 use Rattle.ceu_tree.specs.Paths as spec
 use Rattle.ceu_paths.proofs.WayLaws.{passes_more}
 use Rattle.ceu_paths.proofs.ways.passing_codes.Goals as goal

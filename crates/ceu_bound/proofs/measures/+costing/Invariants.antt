@@ -1,9 +1,9 @@
 use Rattle.std.proofs.Common.{◌≡◌, ◌≤◌, length, take, drop}
-use Rattle.ceu_tree.specs.Cut.{cut}
+use Rattle.ceu_paths.specs.Cap.{cap}
 use Rattle.ceu_tree.specs.Greatest.{greatest, total}
 use Rattle.ceu_tree.proofs.Sizes.{stmt_size, block_size, node_list_size, arm_size, arm_list_size, block_list_size}
 use Rattle.ceu_bound.specs.Measured.{enter_list, stay_list, enter_arm, stay_arm, enter_branch, stay_block}
-use Rattle.ceu_bound.proofs.measures.+measure.Given as goal
+use Rattle.ceu_bound.proofs.measures.+costing.Given as goal
 
 abbrev pub decreases-stmt_measure : goal.decreases-stmt_measure
 decreases-stmt_measure l = stmt_size l.stmt.now
@@ -27,13 +27,13 @@ abbrev pub decreases-par_measure : goal.decreases-par_measure
 decreases-par_measure l = block_list_size l.branches.now
 
 abbrev pub invariant-nodes_measure-loop-left : goal.invariant-nodes_measure-loop-left
-invariant-nodes_measure-loop-left l = (l.cost.enter ≡ cut (enter_list l.tables (drop l.left l.nodes))) × (l.cost.stay ≡ cut (stay_list l.tables (drop l.left l.nodes))) × (l.left ≤ length l.nodes)
+invariant-nodes_measure-loop-left l = (l.cost.enter ≡ cap (enter_list l.tables (drop l.left l.nodes))) × (l.cost.stay ≡ cap (stay_list l.tables (drop l.left l.nodes))) × (l.left ≤ length l.nodes)
 
 abbrev pub decreases-nodes_measure-loop-left : goal.decreases-nodes_measure-loop-left
 decreases-nodes_measure-loop-left l = l.left
 
 abbrev pub invariant-arms_measure-loop-arm : goal.invariant-arms_measure-loop-arm
-invariant-arms_measure-loop-arm l = (l.most.enter ≡ cut (greatest (enter_arm l.tables) (take l.arm-index l.arms))) × (l.most.stay ≡ cut (greatest (stay_arm l.tables) (take l.arm-index l.arms)))
+invariant-arms_measure-loop-arm l = (l.most.enter ≡ cap (greatest (enter_arm l.tables) (take l.arm-index l.arms))) × (l.most.stay ≡ cap (greatest (stay_arm l.tables) (take l.arm-index l.arms)))
 
 abbrev pub invariant-branches_measure-loop-branch : goal.invariant-branches_measure-loop-branch
-invariant-branches_measure-loop-branch l = (l.sum.enter ≡ cut (total (enter_branch l.tables) (take l.branch-index l.branches))) × (l.sum.stay ≡ cut (total (stay_block l.tables) (take l.branch-index l.branches)))
+invariant-branches_measure-loop-branch l = (l.sum.enter ≡ cap (total (enter_branch l.tables) (take l.branch-index l.branches))) × (l.sum.stay ≡ cap (total (stay_block l.tables) (take l.branch-index l.branches)))
