@@ -1,0 +1,5 @@
+pub mod Programs
+pub mod Standing
+pub mod Awaiting
+pub mod Doings
+pub mod Resting

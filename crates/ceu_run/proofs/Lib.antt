@@ -1,0 +1,3 @@
+mod Behind
+mod Built
+mod Ports
