@@ -1,0 +1,10 @@
+pub mod Letters
+pub mod Levels
+pub mod Moved
+pub mod Folding
+pub mod Finishes
+pub mod Others
+pub mod Modes
+pub mod Loops
+pub mod Refusals
+pub mod Answered

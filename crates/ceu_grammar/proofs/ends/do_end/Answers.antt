@@ -1,0 +1,10 @@
+use Rattle.std.proofs.Common.{refl}
+use Rattle.ceu_syntax.specs.Steps as spec
+use Rattle.ceu_grammar.proofs.Moved.{refused, popped, nothing_open}
+use Rattle.ceu_grammar.proofs.ends.do_end.Goals as goal
+
+pub returns-in-Some : goal.returns-in-Some
+returns-in-Some c = popped (λ K. spec.do_end c.args.done K) _ _ _ _ _ c.in-Some.ensures (c.do_end_under.ensures)
+
+pub returns-in-None : goal.returns-in-None
+returns-in-None c = nothing_open (λ K. spec.do_end c.args.done K) _ _ _ c.in-None.ensures.0 (refused _ _ _ c.refuse.ensures refl)

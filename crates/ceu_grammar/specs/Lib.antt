@@ -1,0 +1,4 @@
+pub mod Levels
+pub mod Moves
+pub mod Spelling
+pub mod Answers
