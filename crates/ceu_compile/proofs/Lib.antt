@@ -1,0 +1,4 @@
+mod Broken
+mod Parsing
+mod Resolving
+mod SizeCuts

@@ -1,0 +1,5 @@
+pub mod Errors
+pub mod Resolved
+pub mod Sizes
+pub mod Trees
+pub mod Programs
