@@ -1,9 +1,2 @@
-pub mod Cut
-pub mod Turns
-pub mod Ascii
-pub mod Written
-pub mod Running
-pub mod Gathered
 pub mod Answering
 pub mod Clauses
-pub mod Compiling

@@ -1,15 +1,5 @@
 pub mod Command
-pub mod Cuts
-pub mod Drafts
-pub mod Printing
-pub mod Names
-pub mod FirstForm
-pub mod Scripts
-pub mod Echo
-pub mod Effects
 pub mod Lines
-pub mod Texts
-pub mod Preparing
 pub mod Fetching
 pub mod Outcomes
 pub mod Answering

@@ -1,22 +1,9 @@
--- The lines that are printed.
-use Rattle.std.specs.Prelude.{ℕ, ℤ, List, ◌++◌, codes}
-use Rattle.std.specs.Fmt.{decimal, signed_decimal}
+-- The line of a refusal.
+use Rattle.std.specs.Prelude.{List, ℕ, ◌++◌, codes}
+use Rattle.std.specs.Fmt.{decimal}
 use Rattle.ceu_base.specs.declared.kinds.Pos.{Pos}
 use Rattle.ceu_base.specs.declared.kinds.Rule.{Rule}
 use Rattle.ceu_base.specs.declared.kinds.Rule.TheVariants.{L1, L2, L3, L4, L5, G1, G2, G3, N1, N2, N3, N4, N5, N6, N7, T1, T2, T3, T4, T5, T6, T7, B0, B1, B2, B3, B4, Z1, Z2, Z3}
-
--- bytes of memory, turns of a reaction at most, levels at most
-abbrev pub memory_line : (memory turns levels : ℕ) → List ℕ
-memory_line memory turns levels = codes "memory " ++ decimal memory ++ codes " turns " ++ decimal turns ++ codes " levels " ++ decimal levels ++ codes "\n"
-
-abbrev pub output_line : List ℕ → ℤ → List ℕ
-output_line name value = name ++ codes " " ++ signed_decimal value ++ codes "\n"
-
-abbrev pub escape_line : ℤ → List ℕ
-escape_line value = codes "== escape " ++ signed_decimal value ++ codes "\n"
-
-abbrev pub waiting_line : List ℕ
-waiting_line = codes "== waiting\n"
 
 abbrev pub rule_name : Rule → List ℕ
 rule_name L1 = codes "L1"

@@ -1,39 +1,54 @@
 -- What a call of `ceu` comes to: its status, what it writes, and why.
-use Rattle.std.specs.Prelude.{◌≡◌, ◌≢◌, ◌==◌, ℕ, ◌+◌, ◌*◌, ◌<◌, ◌≤◌, List, [], ◌++◌, length, Option, Some, None, IfSome, String}
+use Rattle.std.specs.Prelude.{◌≡◌, ◌≢◌, ◌==◌, ◌⊎◌, ℕ, ◌<◌, ◌≤◌, false, List, [], length, Option, Some, None, IfSome, String}
 use Rattle.std.specs.Bool.{MatchBool}
 use Rattle.ceu_base.specs.declared.kinds.Pos.{Pos}
 use Rattle.ceu_base.specs.declared.kinds.Rule.{Rule}
+use Rattle.ceu_base.specs.declared.kinds.Rule.TheVariants.{B0}
+use Rattle.ceu_compile.specs.Programs.{IsProgram, Breaks}
+use Rattle.ceu_driver.specs.declared.answers.Played.{Played}
+use Rattle.ceu_driver.specs.declared.answers.Played.TheVariants as played
 use Rattle.ceu_io.specs.Bytes.{Appends, AppendsProperFront}
 use Rattle.ceu_io.specs.Counts.{Quiet}
+use Rattle.ceu_run.specs.Forms.{first_unbuilt}
+use Rattle.ceu_run.specs.Lines.{memory_line}
+use Rattle.ceu_run.specs.Runs.{IsRun, IsCut, IsUpTo}
+use Rattle.ceu_tree.specs.Costs.{bounds}
+use Rattle.ceu_tree.specs.Needs.{memory}
 use Rattle.ceu_tree.specs.declared.kernel.Kernel.{Kernel}
 use Rattle.ceu_top.specs.Command.{file_of}
-use Rattle.ceu_top.specs.Echo.{Values, text_of}
 use Rattle.ceu_top.specs.Fetching.{Files}
-use Rattle.ceu_top.specs.Lines.{memory_line, refusal_line}
-use Rattle.ceu_top.specs.Preparing.{zeros, script_commands, IsRefusedBy}
-use Rattle.ceu_top.specs.Texts.{Compiles}
-use Rattle.ceu_top.specs.declared.script.Command.{Command}
+use Rattle.ceu_top.specs.Lines.{refusal_line}
 use Rattle.ceu_top.specs.declared.status.Status.{Status}
 use Rattle.ceu_top.specs.declared.status.Status.TheVariants.{Done, Refused, Words, Script, Fault, Read, Write, Memory, Absent, TooLong}
 
 -- ---- what is printed
 
--- The memory of v variables is 43 + 4 v; a reaction has one turn and one level.
-abbrev pub run_lines : Kernel → Values → List Command → List ℕ
-run_lines K values commands = memory_line (43 + 4 * length values) 1 0 ++ text_of K values commands
+-- The bytes of a program's memory, and the turns and levels of its reactions at most.
+abbrev pub first_line : Kernel → List ℕ
+first_line K = memory_line (memory false K) (bounds K).turns (bounds K).opens
 
--- The text is a program that runs on the script, and this is its run's text.
-abbrev pub Runs : (text script written : List ℕ) → Type 0
-Runs text script written = (K : Kernel) × (commands : List Command) × Compiles text K × (script_commands K script ≡ Some commands) × (written ≡ run_lines K (zeros K) commands)
+-- The text breaks no rule, this is its kernel, and all its statements have forms that run.
+abbrev pub IsRunnable : List ℕ → Kernel → Type 0
+IsRunnable text K = IsProgram text K × (first_unbuilt K ≡ None)
 
--- The text or the script is refused, and this is the line that says so.
-abbrev pub Refuses : (text script written : List ℕ) → Type 0
-Refuses text script written = (rule : Rule) × (place : Pos) × IsRefusedBy text script rule place × (written ≡ refusal_line rule place)
+-- The first rule that the text breaks; or it breaks none, and the first statement whose form doesn't run stands there.
+abbrev pub RefusesToRun : List ℕ → Rule → Pos → Type 0
+RefusesToRun text rule place = Breaks text rule place ⊎ ((K : Kernel) × IsProgram text K × (rule ≡ B0) × (first_unbuilt K ≡ Some place))
+
+-- The run of a text on a script, by the reference semantics.
+abbrev pub Runs : Played → (text script written : List ℕ) → Type 0
+Runs answer text script written = (K : Kernel) × IsRunnable text K × IsRun answer (first_line K) K script written
+
+-- The line of a refusal.
+abbrev pub Refuses : (text written : List ℕ) → Type 0
+Refuses text written = (rule : Rule) × (place : Pos) × RefusesToRun text rule place × (written ≡ refusal_line rule place)
 
 -- what is printed with a status
 abbrev pub Prints : Status → (text script written : List ℕ) → Type 0
-Prints Done text script written = Runs text script written
-Prints Refused text script written = Refuses text script written
+Prints Done text script written = Runs played.Done text script written
+Prints Script text script written = Runs played.Script text script written
+Prints Fault text script written = Runs played.Fault text script written
+Prints Refused text script written = Refuses text written
 Prints _ text script written = ⊥
 
 -- The words name a file, whose text has at most 1,048,576 bytes and is this one.
@@ -48,12 +63,10 @@ IsTooLong words files = (file : List ℕ) × (text : List ℕ) × (file_of words
 
 -- What is defined for words, files and a script: the status and what is written.
 abbrev pub Outcome : {A : Type 0} → Status → List (String A) → Files → (script written : List ℕ) → Type 0
-Outcome Done words files script written = (text : List ℕ) × IsText words files text × Runs text script written
-Outcome Refused words files script written = (text : List ℕ) × IsText words files text × Refuses text script written
 Outcome Words words files script written = (file_of words ≡ None) × (written ≡ [])
 Outcome Absent words files script written = IsAbsent words files × (written ≡ [])
 Outcome TooLong words files script written = IsTooLong words files × (written ≡ [])
-Outcome _ words files script written = ⊥
+Outcome status words files script written = (text : List ℕ) × IsText words files text × Prints status text script written
 
 -- ---- clauses of `ceu`; what is said of contents holds where the objects tell them
 
@@ -78,25 +91,29 @@ abbrev pub Headline : {A : Type 0} → Status → List (String A) → Option Fil
 Headline status words files left held now s s' i i' o o' = IfSome files (λ fs. IfSome left (λ script. IfSome held (λ before.
     Quiet s s' → Quiet i i' → Quiet o o' → status ≢ Memory → (written : List ℕ) × Outcome status words fs script written × Appends written held now)))
 
--- The run was printed whole.
-abbrev pub IsDone : {A : Type 0} → List (String A) → Option Files → Option (List ℕ) → (held now : Option (List ℕ)) → Type 0
-IsDone words files left held now = IfSome files (λ fs. IfSome left (λ script. (text : List ℕ) × (written : List ℕ) × IsText words fs text × Runs text script written × Appends written held now))
+-- What is defined for this status was printed whole.
+abbrev pub IsWhole : {A : Type 0} → Status → List (String A) → Option Files → Option (List ℕ) → (held now : Option (List ℕ)) → Type 0
+IsWhole status words files left held now =
+    IfSome files (λ fs. IfSome left (λ script. (text : List ℕ) × (written : List ℕ) × IsText words fs text × Prints status text script written × Appends written held now))
 
--- The refusal was printed whole.
-abbrev pub IsRefusal : {A : Type 0} → List (String A) → Option Files → Option (List ℕ) → (held now : Option (List ℕ)) → Type 0
-IsRefusal words files left held now = IfSome files (λ fs. IfSome left (λ script. (text : List ℕ) × (written : List ℕ) × IsText words fs text × Refuses text script written × Appends written held now))
-
--- A proper prefix of what is defined was printed.
+-- A proper prefix of the run, or of the line of a refusal, was printed.
 abbrev pub IsCutShort : {A : Type 0} → List (String A) → Option Files → Option (List ℕ) → (held now : Option (List ℕ)) → Type 0
-IsCutShort words files left held now = IfSome files (λ fs. IfSome left (λ script.
-    (status : Status) × (text : List ℕ) × (written : List ℕ) × IsText words fs text × Prints status text script written × AppendsProperFront written held now))
+IsCutShort words files left held now = IfSome files (λ fs. IfSome left (λ script. (text : List ℕ) × IsText words fs text
+    × (((K : Kernel) × (more : ℕ) × IsRunnable text K × IsCut (first_line K) K script more held now)
+    ⊎ ((rule : Rule) × (place : Pos) × RefusesToRun text rule place × AppendsProperFront (refusal_line rule place) held now))))
+
+-- Nothing was printed, or the run up to some whole lines of the script.
+abbrev pub IsStopped : {A : Type 0} → List (String A) → Option Files → Option (List ℕ) → (held now : Option (List ℕ)) → Type 0
+IsStopped words files left held now = (now ≡ held) ⊎ IfSome files (λ fs. IfSome left (λ script.
+    (text : List ℕ) × (K : Kernel) × (more : ℕ) × (written : List ℕ) × IsText words fs text × IsRunnable text K × IsUpTo (first_line K) K script more written × Appends written held now))
 
 -- With these answers nothing is written.
 abbrev pub IsUnwritten : Status → Type 0 → Type 0
-IsUnwritten Done P = Unit {0}
-IsUnwritten Refused P = Unit {0}
-IsUnwritten Write P = Unit {0}
-IsUnwritten _ P = P
+IsUnwritten Words P = P
+IsUnwritten Memory P = P
+IsUnwritten Absent P = P
+IsUnwritten TooLong P = P
+IsUnwritten _ P = Unit {0}
 
 -- Every answer but `Read` and `Write` comes only where no count rose.
 abbrev pub UnlessFailed : Status → Type 0 → Type 0

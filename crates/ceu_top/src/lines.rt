@@ -1,11 +1,7 @@
-// The lines that are printed.
-ghost use Rattle.std.specs.Prelude.{◌≡◌, ◌≤◌, ◌+◌, ◌*◌, ◌^◌, ◌<◌, ◌++◌, length, codes, OnOk, OnErr};
-ghost use Rattle.ceu_io.specs.Counts.{HasCause};
-ghost use Rattle.ceu_io.specs.Bytes.{Appends, AppendsProperFront};
-ghost use Rattle.ceu_top.specs.Lines as spec;
+// A line that is printed.
+ghost use Rattle.std.specs.Prelude.{◌≡◌, ◌≤◌, ◌+◌, ◌++◌, length};
 
 use arrayvec::ArrayVec;
-use ceu_io::{Failed, Sink, write_all};
 use itoa::{Buffer, Integer};
 
 /// A line's bytes.
@@ -28,63 +24,4 @@ pub(crate) fn add_number<N: Integer>(line: &mut Line, n: N)
 {
     let mut buffer = Buffer::new();
     add(line, buffer.format(n).as_bytes());
-}
-
-/// The line of the memory, of the turns of a reaction and of the levels.
-pub(crate) fn write_memory<O: Sink>(
-    out: &mut O,
-    memory: u32,
-    turns: u32,
-    levels: u16,
-) -> Result<(), Failed>
-    ensures whole { OnOk result (Appends (spec.memory_line memory turns levels) (O.held out.old) (O.held out.new)) }
-    ensures front { OnErr result (AppendsProperFront (spec.memory_line memory turns levels) (O.held out.old) (O.held out.new)) }
-    ensures cause { HasCause (O.faults out.old) (O.faults out.new) result }
-{
-    let mut line = Line::new();
-    add(&mut line, b"memory ");
-    add_number(&mut line, memory);
-    add(&mut line, b" turns ");
-    add_number(&mut line, turns);
-    add(&mut line, b" levels ");
-    add_number(&mut line, levels);
-    add(&mut line, b"\n");
-    write_all(out, line.as_slice())
-}
-
-/// The line of an output's name and value.
-pub(crate) fn write_output<O: Sink>(out: &mut O, name: &str, value: i128) -> Result<(), Failed>
-    requires { length name.now ≤ 64 }
-    ensures whole { OnOk result (Appends (spec.output_line name.now value) (O.held out.old) (O.held out.new)) }
-    ensures front { OnErr result (AppendsProperFront (spec.output_line name.now value) (O.held out.old) (O.held out.new)) }
-    ensures cause { HasCause (O.faults out.old) (O.faults out.new) result }
-{
-    let mut line = Line::new();
-    add(&mut line, name.as_bytes());
-    add(&mut line, b" ");
-    add_number(&mut line, value);
-    add(&mut line, b"\n");
-    write_all(out, line.as_slice())
-}
-
-/// The line of a program that ended by itself.
-pub(crate) fn write_escape<O: Sink>(out: &mut O, value: i128) -> Result<(), Failed>
-    ensures whole { OnOk result (Appends (spec.escape_line value) (O.held out.old) (O.held out.new)) }
-    ensures front { OnErr result (AppendsProperFront (spec.escape_line value) (O.held out.old) (O.held out.new)) }
-    ensures cause { HasCause (O.faults out.old) (O.faults out.new) result }
-{
-    let mut line = Line::new();
-    add(&mut line, b"== escape ");
-    add_number(&mut line, value);
-    add(&mut line, b"\n");
-    write_all(out, line.as_slice())
-}
-
-/// The line of a program that waits at its script's end.
-pub(crate) fn write_waiting<O: Sink>(out: &mut O) -> Result<(), Failed>
-    ensures whole { OnOk result (Appends spec.waiting_line (O.held out.old) (O.held out.new)) }
-    ensures front { OnErr result (AppendsProperFront spec.waiting_line (O.held out.old) (O.held out.new)) }
-    ensures cause { HasCause (O.faults out.old) (O.faults out.new) result }
-{
-    write_all(out, b"== waiting\n")
 }

@@ -34,7 +34,7 @@ fn call(
 #[test]
 fn programs_print_their_run(rt: HostRuntime) -> Result<(), Fail> {
     let echoed = b"memory 47 turns 1 levels 0\nO 5\n== escape 5\n";
-    let rows: [(&[u8], &[u8], Status, &[u8]); 9] = [
+    let rows: [(&[u8], &[u8], Status, &[u8]); 10] = [
         (
             b"escape 1;",
             b"",
@@ -55,14 +55,20 @@ fn programs_print_their_run(rt: HostRuntime) -> Result<(), Fail> {
             Status::Done,
             b"memory 47 turns 1 levels 0\n== waiting\n",
         ),
-        (ECHO, b"B 5", Status::Refused, b"refused B0 1:1\n"),
-        (b"par", b"", Status::Refused, b"refused B0 1:1\n"),
+        (
+            ECHO,
+            b"B 5",
+            Status::Script,
+            b"memory 47 turns 1 levels 0\n== script 1 unknown\n",
+        ),
+        (b"par", b"", Status::Refused, b"refused G1 1:4\n"),
         (
             b"escape x; var int x;",
             b"",
             Status::Refused,
-            b"refused B0 1:1\n",
+            b"refused N1 1:8\n",
         ),
+        (b"await FOREVER;", b"", Status::Refused, b"refused B0 1:1\n"),
         (b"escape y; @", b"", Status::Refused, b"refused L1 1:11\n"),
     ];
     for (text, script, status, printed) in &rows {
@@ -77,7 +83,7 @@ fn programs_print_their_run(rt: HostRuntime) -> Result<(), Fail> {
 fn each_object_may_fail(rt: HostRuntime) -> Result<(), Fail> {
     let rows: [([u32; 3], Status, &[u8]); 4] = [
         ([1, 0, 0], Status::Read, b""),
-        ([0, 2, 0], Status::Read, b""),
+        ([0, 2, 0], Status::Read, b"memory 47 turns 1 levels 0\n"),
         ([0, 0, 1], Status::Write, b""),
         ([0, 0, 2], Status::Write, b"memory 47 turns 1 levels 0\n"),
     ];

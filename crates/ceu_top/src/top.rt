@@ -1,25 +1,30 @@
 // The top call.
-ghost use Rattle.std.specs.Prelude.{◌≡◌, ◌≢◌, ◌⊎◌, ◌≤◌, ◌+◌, ◌*◌, length, OnOk, OnErr, IfSome, MatchOption};
-ghost use Rattle.ceu_io.specs.Bytes.{Appends, AppendsProperFront};
-ghost use Rattle.ceu_io.specs.Counts.{HasCause, Rose};
+ghost use Rattle.std.specs.Prelude.{◌≡◌, ◌≢◌, ◌⊎◌, ◌≤◌, ℕ, List, length, false, None, IfSome, MatchOption};
+ghost use Rattle.ceu_bound.specs.PhaseB.{AreBounds};
+ghost use Rattle.ceu_compile.specs.Programs.{IsProgram};
+ghost use Rattle.ceu_io.specs.Counts.{Rose};
+ghost use Rattle.ceu_run.specs.Forms as forms;
+ghost use Rattle.ceu_tree.specs.Needs.{memory};
 ghost use Rattle.ceu_top.specs.Answering as spec;
-ghost use Rattle.ceu_top.specs.Answering.{IsAnswer, IsFileAnswer, IsTextAnswer};
+ghost use Rattle.ceu_top.specs.Answering.{IsAnswer, IsFileAnswer, IsTextAnswer, IsWritten};
 ghost use Rattle.ceu_top.specs.Command.{file_of};
-ghost use Rattle.ceu_top.specs.Outcomes.{On, Headline, IsAbsent, IsTooLong, IsDone, IsRefusal, IsCutShort, IsUnwritten, UnlessFailed, run_lines};
-ghost use Rattle.ceu_top.specs.Preparing.{CanRun};
+ghost use Rattle.ceu_top.specs.Lines.{refusal_line};
+ghost use Rattle.ceu_top.specs.Outcomes.{On, Headline, IsAbsent, IsTooLong, IsWhole, IsCutShort, IsStopped, IsUnwritten, UnlessFailed};
 
 use crate::fetch::fetch;
-use crate::lines::write_memory;
-use crate::prepare::{NotRun, Prepared, prepare};
 use crate::refusal::write_refusal;
-use crate::runner::run;
 use crate::status::Status;
 use crate::words::file_of;
+use ceu_base::{Pos, Rule};
+use ceu_compile::{CompileError, Program, program_of};
+use ceu_driver::Played;
 use ceu_io::{Failed, Shelf, Sink, Source};
+use ceu_run::{first_unbuilt, run};
 use std::alloc::Global;
 
-/// Does what the words of a command line say. The mode `run` fetches a program's text, reads a script and prints the memory of the
-/// program, each output as it is emitted, and how the program stands in the end; or the first rule that the text breaks.
+/// Does what the words of a command line say. The mode `run` fetches a program's text, prints the bytes of its memory and the turns and
+/// levels of its reactions, boots it, does the commands of a script, and prints each output when it is emitted and in the end how the
+/// program stands; or the first rule that the text breaks. Memory is wanted before the first byte is written and never later.
 pub fn ceu<S: Shelf, I: Source, O: Sink>(
     alloc: Global,
     words: &[String],
@@ -34,18 +39,20 @@ pub fn ceu<S: Shelf, I: Source, O: Sink>(
     ensures words { MatchOption (file_of words.now) (result ≡ Status.Words) (λ _. result ≢ Status.Words) }
     ensures absent { On Status.Absent result (IfSome (S.files shelf.old) (IsAbsent words.now)) }
     ensures too_long { On Status.TooLong result (IfSome (S.files shelf.old) (IsTooLong words.now)) }
-    ensures done { On Status.Done result (IsDone words.now (S.files shelf.old) (I.left input.old) (O.held out.old) (O.held out.new)) }
-    ensures refused { On Status.Refused result (IsRefusal words.now (S.files shelf.old) (I.left input.old) (O.held out.old) (O.held out.new)) }
+    ensures done { On Status.Done result (IsWhole Status.Done words.now (S.files shelf.old) (I.left input.old) (O.held out.old) (O.held out.new)) }
+    ensures refused { On Status.Refused result (IsWhole Status.Refused words.now (S.files shelf.old) (I.left input.old) (O.held out.old) (O.held out.new)) }
+    ensures script { On Status.Script result (IsWhole Status.Script words.now (S.files shelf.old) (I.left input.old) (O.held out.old) (O.held out.new)) }
+    ensures fault { On Status.Fault result (IsWhole Status.Fault words.now (S.files shelf.old) (I.left input.old) (O.held out.old) (O.held out.new)) }
     ensures read { On Status.Read result (Rose (S.faults shelf.old) (S.faults shelf.new) ⊎ Rose (I.faults input.old) (I.faults input.new)) }
     ensures write { On Status.Write result (Rose (O.faults out.old) (O.faults out.new)) }
     // What was written before the sink failed is a proper prefix of what is defined.
     ensures cut_short { On Status.Write result (IsCutShort words.now (S.files shelf.old) (I.left input.old) (O.held out.old) (O.held out.new)) }
-    // Words, Read, Memory, Absent and TooLong come with nothing written.
+    // What was written before the shelf or the script failed: nothing, or the run up to some whole lines.
+    ensures stopped { On Status.Read result (IsStopped words.now (S.files shelf.old) (I.left input.old) (O.held out.old) (O.held out.new)) }
+    // Words, Memory, Absent and TooLong come with nothing written.
     ensures unwritten { IsUnwritten result (O.held out.new ≡ O.held out.old) }
     // Every answer but Read and Write comes only where no count rose.
     ensures quiet { UnlessFailed result ((S.faults shelf.new ≡ S.faults shelf.old) × (I.faults input.new ≡ I.faults input.old) × (O.faults out.new ≡ O.faults out.old)) }
-    // No mode that is built answers these.
-    ensures built { (result ≢ Status.Script) × (result ≢ Status.Fault) }
 {
     answer(alloc, words, shelf, input, out)
 }
@@ -57,7 +64,7 @@ fn answer<S: Shelf, I: Source, O: Sink>(
     input: &mut I,
     out: &mut O,
 ) -> Status
-    ensures { IsAnswer result words.now (S.files shelf.old) (I.left input.old) (O.held out.old) (O.held out.new) (S.faults shelf.old) (S.faults shelf.new) (I.faults input.old) (I.faults input.new) (O.faults out.old) (O.faults out.new) }
+    ensures { IsAnswer result words.now (S.files shelf.old) (I.left input.old) (I.left input.new) (O.held out.old) (O.held out.new) (S.faults shelf.old) (S.faults shelf.new) (I.faults input.old) (I.faults input.new) (O.faults out.old) (O.faults out.new) }
 {
     match file_of(words) {
         Some(file) => run_file(alloc, file, shelf, input, out),
@@ -72,7 +79,7 @@ fn run_file<S: Shelf, I: Source, O: Sink>(
     input: &mut I,
     out: &mut O,
 ) -> Status
-    ensures { IsFileAnswer result file.now (S.files shelf.old) (I.left input.old) (O.held out.old) (O.held out.new) (S.faults shelf.old) (S.faults shelf.new) (I.faults input.old) (I.faults input.new) (O.faults out.old) (O.faults out.new) }
+    ensures { IsFileAnswer result file.now (S.files shelf.old) (I.left input.old) (I.left input.new) (O.held out.old) (O.held out.new) (S.faults shelf.old) (S.faults shelf.new) (I.faults input.old) (I.faults input.new) (O.faults out.old) (O.faults out.new) }
 {
     match fetch(alloc, file, shelf) {
         Ok(text) => run_text(alloc, text.as_slice(), input, out),
@@ -82,16 +89,76 @@ fn run_file<S: Shelf, I: Source, O: Sink>(
 
 fn run_text<I: Source, O: Sink>(alloc: Global, text: &[u8], input: &mut I, out: &mut O) -> Status
     requires { length text.now ≤ 1048576 }
-    ensures { IsTextAnswer result text.now (I.left input.old) (O.held out.old) (O.held out.new) (I.faults input.old) (I.faults input.new) (O.faults out.old) (O.faults out.new) }
+    ensures { IsTextAnswer result text.now (I.left input.old) (I.left input.new) (O.held out.old) (O.held out.new) (I.faults input.old) (I.faults input.new) (O.faults out.old) (O.faults out.new) }
 {
-    match prepare(alloc, text, input) {
-        Ok(prepared) => status_of(run_prepared(prepared, out), Status::Done),
+    match program_of(alloc, text) {
+        Ok(program) => run_program(alloc, &program, input, out),
         Err(e) => match e {
-            NotRun::Refused(rule, pos) => status_of(write_refusal(out, rule, pos), Status::Refused),
-            NotRun::Read => Status::Read,
-            NotRun::Memory => Status::Memory,
+            CompileError::Refused(rule, pos) => refuse(rule, pos, out),
+            CompileError::Memory => Status::Memory,
         },
     }
+}
+
+fn run_program<I: Source, O: Sink>(
+    alloc: Global,
+    program: &Program,
+    input: &mut I,
+    out: &mut O,
+) -> Status
+    requires sized { program.now.memory ≡ memory false program.now.kernel }
+    requires bounded { AreBounds program.now.kernel program.now.bounds }
+    ensures { (text : List ℕ) → IsProgram text program.now.kernel → IsTextAnswer result text (I.left input.old) (I.left input.new) (O.held out.old) (O.held out.new) (I.faults input.old) (I.faults input.new) (O.faults out.old) (O.faults out.new) }
+{
+    match first_unbuilt(&program.kernel) {
+        Some(pos) => refuse(Rule::B0, pos, out),
+        None => run_built(alloc, program, input, out),
+    }
+}
+
+fn run_built<I: Source, O: Sink>(
+    alloc: Global,
+    program: &Program,
+    input: &mut I,
+    out: &mut O,
+) -> Status
+    requires built { forms.first_unbuilt program.now.kernel ≡ None }
+    requires sized { program.now.memory ≡ memory false program.now.kernel }
+    requires bounded { AreBounds program.now.kernel program.now.bounds }
+    ensures { (text : List ℕ) → IsProgram text program.now.kernel → IsTextAnswer result text (I.left input.old) (I.left input.new) (O.held out.old) (O.held out.new) (I.faults input.old) (I.faults input.new) (O.faults out.old) (O.faults out.new) }
+{
+    let bounds = program.bounds;
+    match run(
+        alloc,
+        &program.kernel,
+        program.memory,
+        bounds.turns,
+        bounds.levels,
+        input,
+        out,
+    ) {
+        Ok(played) => played_status(played),
+        Err(_) => Status::Memory,
+    }
+}
+
+fn played_status(played: Played) -> Status
+    ensures { result ≡ spec.played_status played }
+{
+    match played {
+        Played::Done => Status::Done,
+        Played::Fault => Status::Fault,
+        Played::Script => Status::Script,
+        Played::Read => Status::Read,
+        Played::Write => Status::Write,
+    }
+}
+
+// Writes the line of a refusal.
+fn refuse<O: Sink>(rule: Rule, pos: Pos, out: &mut O) -> Status
+    ensures { IsWritten (refusal_line rule pos) Status.Refused result (O.held out.old) (O.held out.new) (O.faults out.old) (O.faults out.new) }
+{
+    status_of(write_refusal(out, rule, pos), Status::Refused)
 }
 
 fn status_of(written: Result<(), Failed>, whole: Status) -> Status
@@ -100,32 +167,5 @@ fn status_of(written: Result<(), Failed>, whole: Status) -> Status
     match written {
         Ok(()) => whole,
         Err(_) => Status::Write,
-    }
-}
-
-// The bytes of memory of a program with these variables.
-fn memory_of(values: &[i128]) -> u32
-    requires { length values.now ≤ 16373 }
-    ensures { result ≡ 43 + 4 * length values.now }
-{
-    43 + 4 * values.len() as u32
-}
-
-// Prints the lines of a run.
-fn run_prepared<O: Sink>(prepared: Prepared, out: &mut O) -> Result<(), Failed>
-    requires { CanRun prepared }
-    ensures whole { OnOk result (Appends (run_lines prepared.kernel prepared.values.items prepared.commands) (O.held out.old) (O.held out.new)) }
-    ensures front { OnErr result (AppendsProperFront (run_lines prepared.kernel prepared.values.items prepared.commands) (O.held out.old) (O.held out.new)) }
-    ensures cause { HasCause (O.faults out.old) (O.faults out.new) result }
-{
-    let mut values = prepared.values;
-    match write_memory(out, memory_of(values.as_slice()), 1, 0) {
-        Ok(()) => run(
-            &prepared.kernel,
-            prepared.commands.items(),
-            values.as_mut_slice(),
-            out,
-        ),
-        Err(e) => Err(e),
     }
 }

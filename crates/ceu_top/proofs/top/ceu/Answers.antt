@@ -1,4 +1,4 @@
-use Rattle.ceu_top.proofs.Clauses.{clause_headline, clause_words, clause_absent, clause_too_long, clause_done, clause_refused, clause_read, clause_write, clause_cut_short, clause_unwritten, clause_quiet, clause_built}
+use Rattle.ceu_top.proofs.Clauses.{clause_headline, clause_words, clause_absent, clause_too_long, clause_done, clause_refused, clause_script, clause_fault, clause_read, clause_write, clause_cut_short, clause_stopped, clause_unwritten, clause_quiet}
 use Rattle.ceu_top.proofs.top.ceu.Goals as goal
 
 pub returns-clause-headline : goal.returns-clause-headline
@@ -19,6 +19,12 @@ returns-clause-done g c = clause_done c.answer.ensures
 pub returns-clause-refused : goal.returns-clause-refused
 returns-clause-refused g c = clause_refused c.answer.ensures
 
+pub returns-clause-script : goal.returns-clause-script
+returns-clause-script g c = clause_script c.answer.ensures
+
+pub returns-clause-fault : goal.returns-clause-fault
+returns-clause-fault g c = clause_fault c.answer.ensures
+
 pub returns-clause-read : goal.returns-clause-read
 returns-clause-read g c = clause_read c.answer.ensures
 
@@ -28,11 +34,11 @@ returns-clause-write g c = clause_write c.answer.ensures
 pub returns-clause-cut_short : goal.returns-clause-cut_short
 returns-clause-cut_short g c = clause_cut_short c.answer.ensures
 
+pub returns-clause-stopped : goal.returns-clause-stopped
+returns-clause-stopped g c = clause_stopped c.answer.ensures
+
 pub returns-clause-unwritten : goal.returns-clause-unwritten
 returns-clause-unwritten g c = clause_unwritten c.answer.ensures
 
 pub returns-clause-quiet : goal.returns-clause-quiet
 returns-clause-quiet g c = clause_quiet c.answer.ensures
-
-pub returns-clause-built : goal.returns-clause-built
-returns-clause-built g c = clause_built c.answer.ensures
