@@ -8,6 +8,3 @@ mod running;
 pub use forms::first_unbuilt;
 pub use lines::write_memory;
 pub use running::{run, run_reactor};
-
-#[cfg(test)]
-mod tests;
