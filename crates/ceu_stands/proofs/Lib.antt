@@ -1,0 +1,4 @@
+pub mod Each
+pub mod Gates
+pub mod Seen
+pub mod Occurrences
