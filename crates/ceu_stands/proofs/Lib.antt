@@ -2,3 +2,4 @@ pub mod Each
 pub mod Gates
 pub mod Seen
 pub mod Occurrences
+pub mod Plug

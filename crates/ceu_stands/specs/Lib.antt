@@ -3,6 +3,7 @@ pub mod Views
 pub mod Leaves
 pub mod Parts
 pub mod Stands
+pub mod Frames
 pub mod Values
 pub mod Changes
 pub mod Laws
