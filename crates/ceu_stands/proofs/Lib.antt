@@ -3,3 +3,4 @@ pub mod Gates
 pub mod Seen
 pub mod Occurrences
 pub mod Plug
+pub mod Unplug

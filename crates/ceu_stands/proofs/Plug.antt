@@ -30,7 +30,7 @@ module _ (t : Tables) (home : Body → Home) (v : View) where
   vacant_in_with h before seat q r after gate d (kind.Var ty) x = tt
   vacant_in_with h before seat q r after gate d (kind.Alias code) x = tt
 
-  vacant_with : (h : Home) (before : Instances) (seat : Seat) (q r : Residual) (after : Instances) (gate : ℕ) (ds : List KDecl)
+  pub vacant_with : (h : Home) (before : Instances) (seat : Seat) (q r : Residual) (after : Instances) (gate : ℕ) (ds : List KDecl)
       → Vacant t v h (join_instances before (instance seat q after)) gate ds → Vacant t v h (join_instances before (instance seat r after)) gate ds
   vacant_with h before seat q r after gate [] x = tt
   vacant_with h before seat q r after gate (d ∷ ds) x = (vacant_in_with h before seat q r after gate d d.kind x.0, vacant_with h before seat q r after (gate + decl_gates t d.kind) ds x.1)
