@@ -1,14 +1,19 @@
--- What an occurrence makes of the leaves, the machine makes of the gates.
-use Rattle.std.specs.Prelude.{◌≡◌, ℕ, ◌-◌, ◌<◌, ◌^◌, min, ℤ, List, slice_index}
+-- The laws: what an occurrence makes of the leaves, the machine makes of the gates; and a tree stands just where the frames around one of its parts and
+-- that part do.
+use Rattle.std.specs.Prelude.{◌≡◌, ℕ, ◌<◌, ℤ, false, List, slice_index}
 use Rattle.ceu_code.specs.declared.image.Image.{Image}
 use Rattle.ceu_isa.specs.Commands.{input_given, time_passed, timers_woken, round_begun}
 use Rattle.ceu_isa.specs.Safety.{Fits}
 use Rattle.ceu_isa.specs.Turns.{Machine}
-use Rattle.ceu_tree.specs.Residual.{Body, Residual}
+use Rattle.ceu_tree.specs.Residual.{Body, Act, Residual}
 use Rattle.ceu_tree.specs.World.{World}
+use Rattle.ceu_tree.specs.Focus.{Focus, plug}
 use Rattle.ceu_tree.specs.Wake.{each_leaf, by_input, later, by_time, new_round}
+use Rattle.ceu_tree.specs.Around.{is_over}
 use Rattle.ceu_stands.specs.Tables.{Tables}
-use Rattle.ceu_stands.specs.Views.{Home}
+use Rattle.ceu_stands.specs.Views.{View, Home}
+use Rattle.ceu_stands.specs.Stands.{Stands}
+use Rattle.ceu_stands.specs.Frames.{Spot, FocusStands}
 use Rattle.ceu_stands.specs.Values.{MemoryStands}
 
 -- each one is a byte
@@ -31,3 +36,13 @@ module _ (image : Image) (t : Tables) (home : Body → Home) (r : Residual) (w :
 
   abbrev pub RoundStands : Type 0
   RoundStands = Stood → MemoryStands image t home (each_leaf new_round r) w (round_begun image m).bytes
+
+-- ---- parts in focus
+
+module _ (t : Tables) (home : Body → Home) (v : View) (f : Focus Act) (body : Body) (low high : ℕ) (q : Residual) where
+  abbrev pub PlugStands : Type 0
+  PlugStands = (d : Spot) → FocusStands t home v f body low high d → Stands t home v q d.body d.low d.high → Stands t home v (plug f q) body low high
+
+  -- of a part that hasn't ended
+  abbrev pub UnplugStands : Type 0
+  UnplugStands = is_over q ≡ false → Stands t home v (plug f q) body low high → (d : Spot) × FocusStands t home v f body low high d × Stands t home v q d.body d.low d.high

@@ -2,13 +2,15 @@
 //! is the contract of a function with an empty body.
 #![tactic(auto)]
 
+ghost use Rattle.std.specs.Prelude.{ℕ};
 ghost use Rattle.ceu_code.specs.declared.image.Image.{Image};
 ghost use Rattle.ceu_isa.specs.Turns.{Machine};
-ghost use Rattle.ceu_tree.specs.Residual.{Body, Residual};
+ghost use Rattle.ceu_tree.specs.Residual.{Act, Body, Residual};
+ghost use Rattle.ceu_tree.specs.Focus.{Focus};
 ghost use Rattle.ceu_tree.specs.World.{World};
-ghost use Rattle.ceu_stands.specs.Laws.{DueStands, InputStands, RoundStands, TimeStands};
+ghost use Rattle.ceu_stands.specs.Laws.{DueStands, InputStands, PlugStands, RoundStands, TimeStands, UnplugStands};
 ghost use Rattle.ceu_stands.specs.Tables.{Tables};
-ghost use Rattle.ceu_stands.specs.Views.{Home};
+ghost use Rattle.ceu_stands.specs.Views.{Home, View};
 
 /// Where a configuration stands in the memory, the machine's change of its gates for an input makes it stand as the reference semantics wakes its leaves.
 pub fn input_stands()
@@ -28,4 +30,14 @@ pub fn due_stands()
 /// and when a new round of asyncs begins.
 pub fn round_stands()
     ensures { (image : Image) (t : Tables) (home : Body → Home) (r : Residual) (w : World) (m : Machine) → RoundStands image t home r w m }
+{}
+
+/// Where the frames around a part stand and the part stands where they say, the whole stands,
+pub fn plug_stands()
+    ensures { (t : Tables) (home : Body → Home) (v : View) (f : Focus Act) (body : Body) (low high : ℕ) (q : Residual) → PlugStands t home v f body low high q }
+{}
+
+/// and the other way round.
+pub fn unplug_stands()
+    ensures { (t : Tables) (home : Body → Home) (v : View) (f : Focus Act) (body : Body) (low high : ℕ) (q : Residual) → UnplugStands t home v f body low high q }
 {}
