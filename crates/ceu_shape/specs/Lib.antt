@@ -1,0 +1,10 @@
+pub mod Plans
+pub mod Pieces
+pub mod Words
+pub mod Expressions
+pub mod Searches
+pub mod Flow
+pub mod Par
+pub mod Pools
+pub mod Async
+pub mod Shape
