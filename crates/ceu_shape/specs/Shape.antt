@@ -111,8 +111,8 @@ labels_of fresh n s = record { own = own_label n; next = next_label n s; parts =
 module _ (P : Plan) (K : Kernel) where
   abbrev pub node_draft : (node : ℕ) → Pos → KStmt → Labels → Draft
   node_draft n p Nothing labels = text (nothing_lines labels)
-  node_draft n p (Assign l e) labels = text (assign_lines P l labels)
-  node_draft n p (Out k e) labels = output_draft P K k e labels
+  node_draft n p (Assign l e) labels = text (assign_lines P.offset l labels)
+  node_draft n p (Out k e) labels = output_draft K k e labels
   node_draft n p (Emit k e) labels = emit_draft P K n k e labels
   node_draft n p (AwaitIn k t) labels = await_input_draft P K n k t labels
   node_draft n p (AwaitTime e u t) labels = await_time_draft P K n u t labels
@@ -124,11 +124,11 @@ module _ (P : Plan) (K : Kernel) where
   node_draft n p (Unset c) labels = text (unset_lines P c labels)
   node_draft n p (Async b) labels = async_draft P n (node_of_block b) labels
   node_draft n p (Finalize b) labels = finalizer_draft P n p labels
-  node_draft n p (Do t b) labels = text (do_lines P t labels)
+  node_draft n p (Do t b) labels = text (do_lines P.offset t labels)
   node_draft n p (Escape m e) labels = escape_draft P K m e labels
   node_draft n p (Break m) labels = text (leave_lines P m labels)
   node_draft n p (Continue m) labels = text (leave_lines P m labels)
-  node_draft n p (If' _ arms last) labels = if_draft P (arm_count arms) labels
+  node_draft n p (If' _ arms last) labels = if_draft (arm_count arms) labels
   node_draft n p (Loop kind b) labels = looping_draft P K n p kind labels
   node_draft n p (Par' kind slot _ bs) labels = par_draft P labels n kind slot (branch_nodes bs)
 
