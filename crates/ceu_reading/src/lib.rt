@@ -1,0 +1,2 @@
+//! What the printer prints reads back: the grammar's side.
+#![tactic(auto)]
