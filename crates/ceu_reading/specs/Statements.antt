@@ -169,8 +169,9 @@ unfoldable mutual
   more_arms end_of-Arm after = after
   more_arms (more_of-Arm a rest) after = k.Else ∷ k.Slash ∷ arm_kinds a (more_arms rest after)
 
+  -- No par is without branches: a name without letters stands for what no token is.
   pub branches_kinds : {n : _} → Row_of-Block n → (after : List Kind) → List Kind
-  branches_kinds end_of-Block after = after
+  branches_kinds end_of-Block after = k.Lower [] ∷ after
   branches_kinds (more_of-Block b rest) after = block_kinds b (more_branches rest after)
 
   pub more_branches : {n : _} → Row_of-Block n → (after : List Kind) → List Kind
