@@ -1,0 +1,3 @@
+pub mod Placed
+pub mod Expressions
+pub mod Forms
