@@ -41,43 +41,11 @@ prefix_known op1.Compl = refl
 
 binary_known : (op : Op2) → binary_of (binary_kind op) ≡ Some op
 binary_known op2.Or = refl
-binary_known op2.And = refl
-binary_known op2.Eq = refl
-binary_known op2.Ne = refl
-binary_known op2.Lt = refl
-binary_known op2.Gt = refl
-binary_known op2.Le = refl
-binary_known op2.Ge = refl
-binary_known op2.BitOr = refl
-binary_known op2.BitXor = refl
-binary_known op2.BitAnd = refl
-binary_known op2.Shl = refl
-binary_known op2.Shr = refl
-binary_known op2.Add = refl
-binary_known op2.Sub = refl
-binary_known op2.Mul = refl
-binary_known op2.Div = refl
-binary_known op2.Rem = refl
+binary_known _ = refl
 
 levels_agree : (op : Op2) → level op ≡ grammar_level op
 levels_agree op2.Or = refl
-levels_agree op2.And = refl
-levels_agree op2.Eq = refl
-levels_agree op2.Ne = refl
-levels_agree op2.Lt = refl
-levels_agree op2.Gt = refl
-levels_agree op2.Le = refl
-levels_agree op2.Ge = refl
-levels_agree op2.BitOr = refl
-levels_agree op2.BitXor = refl
-levels_agree op2.BitAnd = refl
-levels_agree op2.Shl = refl
-levels_agree op2.Shr = refl
-levels_agree op2.Add = refl
-levels_agree op2.Sub = refl
-levels_agree op2.Mul = refl
-levels_agree op2.Div = refl
-levels_agree op2.Rem = refl
+levels_agree _ = refl
 
 binary_derives : {q : ℕ} {tokens : List Terminal} {a b : Exp} {right rest : List Terminal} (op : Op2) (at : Pos) → q ≤ level op
     → Expression (level op) tokens a (token (binary_kind op) at ∷ right) → Expression (suc (level op)) right b rest → Expression q tokens (two op at a b) rest
@@ -152,7 +120,7 @@ whole_reads d after p = expression_reads d 0 (omega arith) after p
 
 -- ---- calls
 
-comma_first : {tokens : List Terminal} {es : List Exp} {rest : List Terminal} → Arguments tokens es rest → (after : List Kind) → k.Comma ∷ argument_kinds es after ≡ more_arguments es after
+pub comma_first : {tokens : List Terminal} {es : List Exp} {rest : List Terminal} → Arguments tokens es rest → (after : List Kind) → k.Comma ∷ argument_kinds es after ≡ more_arguments es after
 comma_first (last_argument close d) after = refl
 comma_first (one_argument comma d m) after = refl
 

@@ -1,3 +1,4 @@
 pub mod Placed
 pub mod Expressions
 pub mod Forms
+pub mod SpelledExpressions
