@@ -23,11 +23,11 @@ use Rattle.ceu_reading.proofs.Expressions.{location_reads}
 
 -- ---- names
 
-lower_comma : {tokens : List Terminal} {xs : List Ident} {rest : List Terminal} → Names case.Lower tokens xs rest → (after : List Kind) → k.Comma ∷ lowers_kinds xs after ≡ more_lowers xs after
+pub lower_comma : {tokens : List Terminal} {xs : List Ident} {rest : List Terminal} → Names case.Lower tokens xs rest → (after : List Kind) → k.Comma ∷ lowers_kinds xs after ≡ more_lowers xs after
 lower_comma (last_name x at rest) after = refl
 lower_comma (one_name x at comma d) after = refl
 
-ext_comma : {tokens : List Terminal} {xs : List Ident} {rest : List Terminal} → Names case.Upper tokens xs rest → (after : List Kind) → k.Comma ∷ exts_kinds xs after ≡ more_exts xs after
+pub ext_comma : {tokens : List Terminal} {xs : List Ident} {rest : List Terminal} → Names case.Upper tokens xs rest → (after : List Kind) → k.Comma ∷ exts_kinds xs after ≡ more_exts xs after
 ext_comma (last_name x at rest) after = refl
 ext_comma (one_name x at comma d) after = refl
 
@@ -45,7 +45,7 @@ exts_read (one_name {xs = xs} x at comma d) after p =
     subst (λ kinds. Reading (Names case.Upper) (map unplaced_ident) (ident x at ∷ xs) (k.Ext x ∷ kinds) after p) (ext_comma d after)
       (record { found = ident x (p 0) ∷ r.found; places = r.places; derives = one_name x (p 0) (p 1) r.derives; same = λ i. ident x nowhere ∷ r.same i })
 
-listed_shared : {tokens : List Terminal} {xs : List Ident} {rest : List Terminal} → Names case.Lower tokens xs rest → (after : List Kind) → k.OpenParen ∷ lowers_kinds xs (k.CloseParen ∷ after) ≡ shared_kinds xs after
+pub listed_shared : {tokens : List Terminal} {xs : List Ident} {rest : List Terminal} → Names case.Lower tokens xs rest → (after : List Kind) → k.OpenParen ∷ lowers_kinds xs (k.CloseParen ∷ after) ≡ shared_kinds xs after
 listed_shared (last_name x at rest) after = refl
 listed_shared (one_name x at comma d) after = refl
 
@@ -59,7 +59,7 @@ shares_read (shared {xs = xs} paren close d) after p =
 
 -- ---- parameters
 
-param_comma : {tokens : List Terminal} {ps : List Param} {rest : List Terminal} → ParamList tokens ps rest → (after : List Kind) → k.Comma ∷ params_kinds ps after ≡ more_params ps after
+pub param_comma : {tokens : List Terminal} {ps : List Param} {rest : List Terminal} → ParamList tokens ps rest → (after : List Kind) → k.Comma ∷ params_kinds ps after ≡ more_params ps after
 param_comma (last_param ty x at of name close rest) after = refl
 param_comma (one_param ty x at of name comma d) after = refl
 

@@ -2,3 +2,4 @@ pub mod Placed
 pub mod Expressions
 pub mod Forms
 pub mod SpelledExpressions
+pub mod SpelledForms
