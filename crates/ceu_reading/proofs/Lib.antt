@@ -3,3 +3,5 @@ pub mod Expressions
 pub mod Forms
 pub mod SpelledExpressions
 pub mod SpelledForms
+pub mod Ends
+pub mod SpelledStatements
