@@ -5,3 +5,4 @@ pub mod SpelledExpressions
 pub mod SpelledForms
 pub mod Ends
 pub mod SpelledStatements
+pub mod Statements

@@ -138,22 +138,22 @@ mutual
           par_spelled kind (block_kinds (block ns) (more_branches (hidden-the_row-Block-2 bs) (k.End ∷ after))) (s.printed (more_branches (hidden-the_row-Block-2 bs) (k.End ∷ after)) (subst AllSpelled (branch_with bd (k.End ∷ after)) others));
       }
 
-  does_kept : {tokens : List Terminal} {d : Do} {rest : List Terminal} → Does tokens d rest → TokensSpelled tokens → Kept rest (do_kinds d)
+  pub does_kept : {tokens : List Terminal} {d : Do} {rest : List Terminal} → Does tokens d rest → TokensSpelled tokens → Kept rest (do_kinds d)
   does_kept (does_plain end m) h = let s = statements_kept m h in record { rest = s.rest.1; printed = λ after g. (tt, s.printed (k.End ∷ after) (tt, g)) }
   does_kept (does_under slash at end m) h = let s = statements_kept m h.1.1 in record { rest = s.rest.1; printed = λ after g. (tt, (tt, (tt, s.printed (k.End ∷ after) (tt, g)))) }
   does_kept (does_named x slash at end m) h = let s = statements_kept m h.1.1 in record { rest = s.rest.1; printed = λ after g. (tt, (tt, (h.1.0, s.printed (k.End ∷ after) (tt, g)))) }
 
-  sources_kept : {tokens : List Terminal} {s : Source} {b : Bool} {rest : List Terminal} → Sources tokens s b rest → TokensSpelled tokens → Kept rest (source_kinds s)
+  pub sources_kept : {tokens : List Terminal} {s : Source} {b : Bool} {rest : List Terminal} → Sources tokens s b rest → TokensSpelled tokens → Kept rest (source_kinds s)
   sources_kept (is_value d) h = let r = expression_kept d h in record { rest = r.rest; printed = λ after g. r.printed after g }
   sources_kept (is_wait at d) h = let r = awaits_kept d h.1 in record { rest = r.rest; printed = λ after g. (tt, r.printed after g) }
   sources_kept (is_start d) h = let r = spawns_kept d h in record { rest = r.rest; printed = λ after g. r.printed after g }
   sources_kept (is_done at d) h = let r = does_kept d h.1 in record { rest = r.rest; printed = λ after g. r.printed after g }
 
-  item_kept : {tokens : List Terminal} {i : Item} {b : Bool} {rest : List Terminal} → ItemOf tokens i b rest → TokensSpelled tokens → Kept rest (items_kinds (hidden-the_row-Item-0 (i ∷ [])))
+  pub item_kept : {tokens : List Terminal} {i : Item} {b : Bool} {rest : List Terminal} → ItemOf tokens i b rest → TokensSpelled tokens → Kept rest (items_kinds (hidden-the_row-Item-0 (i ∷ [])))
   item_kept (is_bare x at rest) h = record { rest = h.1; printed = λ after g. (h.0, g) }
   item_kept (is_initial x at equal d) h = let r = sources_kept d h.1.1 in record { rest = r.rest; printed = λ after g. (h.0, (tt, r.printed after g)) }
 
-  items_kept : {tokens : List Terminal} {is : List Item} {b : Bool} {rest : List Terminal} → Items tokens is b rest → TokensSpelled tokens → Kept rest (items_kinds (hidden-the_row-Item-0 is))
+  pub items_kept : {tokens : List Terminal} {is : List Item} {b : Bool} {rest : List Terminal} → Items tokens is b rest → TokensSpelled tokens → Kept rest (items_kinds (hidden-the_row-Item-0 is))
   items_kept (last_item d) h = item_kept d h
   items_kept (one_item {is = is} comma d m) h =
       let r = item_kept d h in
@@ -165,7 +165,7 @@ mutual
           r.printed (more_items (hidden-the_row-Item-0 is) after) (subst AllSpelled (item_comma m after) both);
       }
 
-  statement_kept : {tokens : List Terminal} {n : Node} {rest : List Terminal} → Statement tokens n rest → TokensSpelled tokens → Kept rest (λ after. stmt_kinds n.stmt (ended_kinds (ends_in_end n.stmt) after))
+  pub statement_kept : {tokens : List Terminal} {n : Node} {rest : List Terminal} → Statement tokens n rest → TokensSpelled tokens → Kept rest (λ after. stmt_kinds n.stmt (ended_kinds (ends_in_end n.stmt) after))
   statement_kept (is_simple {n = n} semicolon d) h =
       let r = forms_kept d h in
       record {
@@ -184,7 +184,7 @@ mutual
       let s = statements_kept m r.rest in
       record { rest = s.rest; printed = λ after g. r.printed (nodes_kinds (hidden-the_row-Node-3 ns) after) (s.printed after g) }
 
-  branches_kept : {tokens : List Terminal} {bs : List Block} {rest : List Terminal} → Branches tokens bs rest → TokensSpelled tokens → Kept rest (λ after. branches_kinds (hidden-the_row-Block-2 bs) (k.End ∷ after))
+  pub branches_kept : {tokens : List Terminal} {bs : List Block} {rest : List Terminal} → Branches tokens bs rest → TokensSpelled tokens → Kept rest (λ after. branches_kinds (hidden-the_row-Block-2 bs) (k.End ∷ after))
   branches_kept (last_branch end m) h = let s = statements_kept m h in record { rest = s.rest.1; printed = λ after g. s.printed (k.End ∷ after) (tt, g) }
   branches_kept (one_branch {bs = bs} with m bd) h =
       let s = statements_kept m h in
@@ -196,7 +196,7 @@ mutual
           s.printed (more_branches (hidden-the_row-Block-2 bs) (k.End ∷ after)) (subst AllSpelled (branch_with bd (k.End ∷ after)) others);
       }
 
-  arms_kept : {tokens : List Terminal} {arms : List Arm} {last : Option Block} {rest : List Terminal} → Arms tokens arms last rest → TokensSpelled tokens
+  pub arms_kept : {tokens : List Terminal} {arms : List Arm} {last : Option Block} {rest : List Terminal} → Arms tokens arms last rest → TokensSpelled tokens
       → Kept rest (λ after. more_arms (hidden-the_row-Arm-1 arms) (last_kinds (back-Stmt-If-1 last) after))
   arms_kept (no_else end rest) h = record { rest = h.1; printed = λ after g. (tt, g) }
   arms_kept (last_else at end m) h = let s = statements_kept m h.1 in record { rest = s.rest.1; printed = λ after g. (tt, s.printed (k.End ∷ after) (tt, g)) }
