@@ -1,5 +1,5 @@
 -- Which statements end with `end`, by what they derive from; lists of parts, each but the first behind its separator.
-use Rattle.std.proofs.Common.{◌≡◌, refl, ℕ, Bool, true, false, List, [], ◌∷◌, Option, Some, None}
+use Rattle.std.proofs.Common.{◌≡◌, refl, Bool, false, List, [], ◌∷◌}
 use Rattle.ceu_tree.specs.declared.source.Source.{Source}
 use Rattle.ceu_tree.specs.declared.source.Source.TheBlock.{hidden-the_row-Item-0, hidden-the_row-Block-2}
 use Rattle.ceu_tree.specs.declared.source.Item.{Item}
@@ -8,7 +8,7 @@ use Rattle.ceu_tree.specs.declared.source.Node.{Node}
 use Rattle.ceu_syntax.specs.declared.terminal.Kind.{Kind}
 use Rattle.ceu_syntax.specs.declared.terminal.Kind.TheVariants as k
 use Rattle.ceu_syntax.specs.declared.terminal.Terminal.{Terminal}
-use Rattle.ceu_syntax.specs.Grammar.{Forms, is_vars, is_assign, is_nothing, Sources, is_value, is_wait, is_start, is_done, ItemOf, is_bare, is_initial, Items, last_item, one_item, Branches, last_branch, one_branch}
+use Rattle.ceu_syntax.specs.Grammar.{Forms, is_vars, is_assign, Sources, is_value, is_wait, is_start, is_done, ItemOf, is_bare, is_initial, Items, last_item, one_item, Branches, last_branch, one_branch}
 use Rattle.ceu_print.specs.Statements.{is_do, row_is_done, ends_in_end}
 use Rattle.ceu_reading.specs.Statements.{stmt_kinds, items_kinds, more_items, branches_kinds, more_branches}
 use denote.Hole.Carrier

@@ -1,5 +1,5 @@
 -- Printed expressions, calls and awaits read back.
-use Rattle.std.proofs.Common.{◌≡◌, refl, sym, ap, ◌∙◌, ℕ, suc, ◌≤◌, Bool, true, false, List, [], ◌∷◌, Option, Some, None, if◌then◌else◌, map, subst, arith}
+use Rattle.std.proofs.Common.{◌≡◌, refl, ℕ, suc, ◌≤◌, Bool, true, false, List, [], ◌∷◌, Some, None, if◌then◌else◌, map, subst, arith}
 use Rattle.std.specs.Prelude.{nat_lt}
 use Rattle.ceu_base.specs.declared.kinds.Op1.{Op1}
 use Rattle.ceu_base.specs.declared.kinds.Op1.TheVariants as op1
@@ -22,12 +22,12 @@ use Rattle.ceu_print.specs.Expressions.{tightness}
 use Rattle.ceu_syntax.specs.declared.terminal.Kind.{Kind}
 use Rattle.ceu_syntax.specs.declared.terminal.Kind.TheVariants as k
 use Rattle.ceu_syntax.specs.declared.terminal.Terminal.{Terminal}
-use Rattle.ceu_syntax.specs.Terminals.{token, lower, ext, abs, digits, binary_of, prefix_of, unit_name}
+use Rattle.ceu_syntax.specs.Terminals.{token, binary_of, prefix_of, unit_name}
 use Rattle.ceu_syntax.specs.Terminals.{level as grammar_level}
 use Rattle.ceu_syntax.specs.Trees.{ident, outer, number, truth, variable, alive, one, two, cast, call, spawn}
 use Rattle.ceu_syntax.specs.Expressions.{Location, is_here, is_outer, Expression, is_number, is_truth, is_variable, is_alive, is_paren, is_prefix, is_binary, is_cast, Arguments, last_argument, one_argument, Calls, calls_empty, calls_with, Spawns, spawns, Targets, is_input, is_event, is_time, is_time_expression, Awaits, is_forever, is_code, is_target, is_until}
 use Rattle.ceu_reading.specs.Words.{prefix_kind, binary_kind, lower_kinds}
-use Rattle.ceu_reading.specs.Expressions.{node_kinds, operand_kinds, exp_kinds, more_arguments, argument_kinds, call_kinds, spawn_kinds, target_kinds, awaited_kinds}
+use Rattle.ceu_reading.specs.Expressions.{node_kinds, exp_kinds, more_arguments, argument_kinds, call_kinds, spawn_kinds, target_kinds, awaited_kinds}
 use Rattle.ceu_reading.specs.Places.{nowhere, unplaced_ident, unplaced_node, unplaced_exp, unplaced_call, unplaced_spawn, unplaced_target, unplaced_await}
 use Rattle.ceu_reading.proofs.Placed.{Places, next, placed, Reading}
 use denote.Hole.Carrier
@@ -133,7 +133,7 @@ arguments_read (one_argument {e = e} {es = es} comma d m) after p =
     let r = whole_reads d (k.Comma ∷ argument_kinds es (k.CloseParen ∷ after)) p in
     let s = arguments_read m after (next r.places) in
     subst (λ kinds. Reading Arguments (map unplaced_exp) (e ∷ es) (exp_kinds e kinds) after p) (comma_first m (k.CloseParen ∷ after))
-      (record { found = r.found ∷ s.found; places = s.places; derives = one_argument (r.places 0) r.derives s.derives; same = λ i. r.same i ∷ s.same i })
+    (record { found = r.found ∷ s.found; places = s.places; derives = one_argument (r.places 0) r.derives s.derives; same = λ i. r.same i ∷ s.same i })
 
 pub calls_read : {tokens : List Terminal} {c : Call} {rest : List Terminal} → Calls tokens c rest → (after : List Kind) (p : Places) → Reading Calls unplaced_call c (call_kinds c after) after p
 calls_read (calls_empty x at paren close rest) after p =

@@ -6,3 +6,4 @@ pub mod SpelledForms
 pub mod Ends
 pub mod SpelledStatements
 pub mod Statements
+pub mod Programs

@@ -1,5 +1,5 @@
 -- Of tokens that are spelled, what is printed of an expression, a call or an await is spelled, and so are the tokens that follow it.
-use Rattle.std.proofs.Common.{◌≡◌, refl, sym, ap, ℕ, suc, Bool, true, false, List, [], ◌∷◌, Some, None, if◌then◌else◌, length, subst}
+use Rattle.std.proofs.Common.{ℕ, suc, Bool, true, false, List, ◌∷◌, if◌then◌else◌, subst}
 use Rattle.std.specs.Prelude.{nat_lt}
 use Rattle.ceu_base.specs.declared.kinds.Op1.{Op1}
 use Rattle.ceu_base.specs.declared.kinds.Op1.TheVariants as op1
@@ -20,7 +20,7 @@ use Rattle.ceu_syntax.specs.declared.terminal.Terminal.{Terminal}
 use Rattle.ceu_syntax.specs.Terminals.{unit_name}
 use Rattle.ceu_syntax.specs.Expressions.{Location, is_here, is_outer, Expression, is_number, is_truth, is_variable, is_alive, is_paren, is_prefix, is_binary, is_cast, Arguments, last_argument, one_argument, Calls, calls_empty, calls_with, Spawns, spawns, Targets, is_input, is_event, is_time, is_time_expression, Awaits, is_forever, is_code, is_target, is_until}
 use Rattle.ceu_reading.specs.Words.{prefix_kind, binary_kind, lower_kinds}
-use Rattle.ceu_reading.specs.Expressions.{node_kinds, exp_kinds, more_arguments, argument_kinds, call_kinds, spawn_kinds, target_kinds, awaited_kinds}
+use Rattle.ceu_reading.specs.Expressions.{node_kinds, exp_kinds, argument_kinds, call_kinds, spawn_kinds, target_kinds, awaited_kinds}
 use Rattle.ceu_reading.specs.Spelled.{IsSpelled, AllSpelled, TokensSpelled}
 use Rattle.ceu_reading.proofs.Expressions.{comma_first}
 use denote.Hole.Carrier
@@ -67,7 +67,7 @@ expression_kept (is_binary {a = a} {b = b} kind op at c known d e) h =
     record {
       rest = s.rest;
       printed = λ after g. enclosed_spelled a r.printed (nat_lt (tightness a.node) (level op)) (binary_kind op ∷ at_level (suc (level op)) b after)
-        (binary_spelled op, enclosed_spelled b s.printed (nat_lt (tightness b.node) (suc (level op))) after g);
+          (binary_spelled op, enclosed_spelled b s.printed (nat_lt (tightness b.node) (suc (level op))) after g);
     }
 expression_kept (is_cast {e = e} ty at last d) h =
     let r = expression_kept d h in

@@ -1,5 +1,5 @@
 -- The same of names, parameters and emissions.
-use Rattle.std.proofs.Common.{◌≡◌, sym, ap, ℕ, List, [], ◌∷◌, subst}
+use Rattle.std.proofs.Common.{sym, List, ◌∷◌, subst}
 use Rattle.ceu_tree.specs.declared.kernel.ParKind.{ParKind}
 use Rattle.ceu_tree.specs.declared.kernel.ParKind.TheVariants as par
 use Rattle.ceu_tree.specs.declared.source.Ident.{Ident}
@@ -8,7 +8,7 @@ use Rattle.ceu_syntax.specs.declared.machine.Case.TheVariants as case
 use Rattle.ceu_syntax.specs.declared.terminal.Kind.{Kind}
 use Rattle.ceu_syntax.specs.declared.terminal.Kind.TheVariants as k
 use Rattle.ceu_syntax.specs.declared.terminal.Terminal.{Terminal}
-use Rattle.ceu_syntax.specs.Expressions.{Location, is_here, is_outer}
+use Rattle.ceu_syntax.specs.Expressions.{is_here, is_outer}
 use Rattle.ceu_syntax.specs.Forms.{Names, last_name, one_name, Shares, no_list, empty_list, shared, ParamList, last_param, one_param, Params, no_params, none_params, some_params, Pars, is_never, is_or, is_and, Emits, emits_output, emits_event}
 use Rattle.ceu_reading.specs.Words.{of_lexeme, event_kind, event_kinds, par_kinds}
 use Rattle.ceu_reading.specs.Statements.{lowers_kinds, exts_kinds, params_kinds, shared_kinds}

@@ -1,5 +1,5 @@
 -- The same of statements.
-use Rattle.std.proofs.Common.{◌≡◌, refl, sym, ap, ℕ, suc, ◌<◌, Bool, true, false, List, [], ◌∷◌, Option, Some, None, if◌then◌else◌, subst, arith}
+use Rattle.std.proofs.Common.{sym, ℕ, ◌<◌, Bool, true, false, List, [], ◌∷◌, Option, if◌then◌else◌, subst, arith}
 use Rattle.std.specs.Prelude.{nat_le}
 use Rattle.ceu_tree.specs.declared.source.Source.{Source}
 use Rattle.ceu_tree.specs.declared.source.Source.TheBlock.{hidden-the_row-Item-0, hidden-the_row-Arm-1, hidden-the_row-Block-2, hidden-the_row-Node-3}
@@ -9,11 +9,10 @@ use Rattle.ceu_tree.specs.declared.source.Block.{Block, roll-Block}
 use Rattle.ceu_tree.specs.declared.source.Node.{Node}
 use Rattle.ceu_tree.specs.declared.source.Arm.{Arm}
 use Rattle.ceu_tree.specs.declared.source.Stmt.{back-Stmt-If-1}
-use Rattle.ceu_syntax.specs.declared.terminal.Kind.{Kind}
 use Rattle.ceu_syntax.specs.declared.terminal.Kind.TheVariants as k
 use Rattle.ceu_syntax.specs.declared.terminal.Terminal.{Terminal}
 use Rattle.ceu_syntax.specs.Terminals.{saturated, left_bracket, right_bracket}
-use Rattle.ceu_syntax.specs.Trees.{block, node, arm}
+use Rattle.ceu_syntax.specs.Trees.{block}
 use Rattle.ceu_syntax.specs.Grammar.{Forms, is_nothing, is_break, is_continue, is_vars, is_alias, is_alias_of, is_events, is_inputs, is_outputs, is_pool, is_code, is_assign, is_emit, is_emit_empty, is_emit_value, is_await, is_spawn, is_async, is_await_async, is_do, is_kill, is_escape, is_escape_value, is_escape_label, is_escape_both, is_finalize, is_if, is_loop, is_times, is_range, is_every, is_every_in, is_watching, is_par, Does, does_plain, does_under, does_named, Sources, is_value, is_wait, is_start, is_done, ItemOf, is_bare, is_initial, Items, last_item, one_item, Statement, is_simple, is_ended, Statements, no_more, skips, one_more, Branches, last_branch, one_branch, Arms, no_else, last_else, else_if}
 use Rattle.ceu_print.specs.Statements.{ends_in_end}
 use Rattle.ceu_reading.specs.Expressions.{exp_kinds, target_kinds}
@@ -41,6 +40,7 @@ close_spelled true = tt
 
 mutual
   unfolding stmt_kinds hidden-the_row-Item-0 hidden-the_row-Arm-1 hidden-the_row-Block-2 hidden-the_row-Node-3 roll-Block Carrier.hidden Carrier.roll
+
   pub forms_kept : {tokens : List Terminal} {n : Node} {b : Bool} {rest : List Terminal} → Forms tokens n b rest → TokensSpelled tokens → Kept rest (stmt_kinds n.stmt)
   forms_kept (is_nothing at rest) h = record { rest = h.1; printed = λ after g. (tt, g) }
   forms_kept (is_break at rest) h = record { rest = h.1; printed = λ after g. (tt, g) }
@@ -108,8 +108,8 @@ mutual
       record {
         rest = t.rest.1;
         printed = λ after g.
-          let body = right_bracket open_b ∷ k.Do ∷ body_kinds (block ns) after in
-          (tt, (h.1.0, (tt, (bracket_spelled open_a, r.printed (k.Arrow ∷ exp_kinds b body) (tt, s.printed body (close_spelled open_b, (tt, t.printed (k.End ∷ after) (tt, g))))))));
+            let body = right_bracket open_b ∷ k.Do ∷ body_kinds (block ns) after in
+            (tt, (h.1.0, (tt, (bracket_spelled open_a, r.printed (k.Arrow ∷ exp_kinds b body) (tt, s.printed body (close_spelled open_b, (tt, t.printed (k.End ∷ after) (tt, g))))))));
       }
   forms_kept (is_every {ns = ns} at begin end d m) h =
       let r = targets_kept d h.1 in
@@ -134,8 +134,8 @@ mutual
       record {
         rest = t.rest;
         printed = λ after g.
-          let others : AllSpelled (k.With ∷ branches_kinds (hidden-the_row-Block-2 bs) (k.End ∷ after)) = (tt, t.printed after g) in
-          par_spelled kind (block_kinds (block ns) (more_branches (hidden-the_row-Block-2 bs) (k.End ∷ after))) (s.printed (more_branches (hidden-the_row-Block-2 bs) (k.End ∷ after)) (subst AllSpelled (branch_with bd (k.End ∷ after)) others));
+            let others : AllSpelled (k.With ∷ branches_kinds (hidden-the_row-Block-2 bs) (k.End ∷ after)) = (tt, t.printed after g) in
+            par_spelled kind (block_kinds (block ns) (more_branches (hidden-the_row-Block-2 bs) (k.End ∷ after))) (s.printed (more_branches (hidden-the_row-Block-2 bs) (k.End ∷ after)) (subst AllSpelled (branch_with bd (k.End ∷ after)) others));
       }
 
   pub does_kept : {tokens : List Terminal} {d : Do} {rest : List Terminal} → Does tokens d rest → TokensSpelled tokens → Kept rest (do_kinds d)
@@ -161,8 +161,8 @@ mutual
       record {
         rest = s.rest;
         printed = λ after g.
-          let both : AllSpelled (k.Comma ∷ items_kinds (hidden-the_row-Item-0 is) after) = (tt, s.printed after g) in
-          r.printed (more_items (hidden-the_row-Item-0 is) after) (subst AllSpelled (item_comma m after) both);
+            let both : AllSpelled (k.Comma ∷ items_kinds (hidden-the_row-Item-0 is) after) = (tt, s.printed after g) in
+            r.printed (more_items (hidden-the_row-Item-0 is) after) (subst AllSpelled (item_comma m after) both);
       }
 
   pub statement_kept : {tokens : List Terminal} {n : Node} {rest : List Terminal} → Statement tokens n rest → TokensSpelled tokens → Kept rest (λ after. stmt_kinds n.stmt (ended_kinds (ends_in_end n.stmt) after))
@@ -192,8 +192,8 @@ mutual
       record {
         rest = t.rest;
         printed = λ after g.
-          let others : AllSpelled (k.With ∷ branches_kinds (hidden-the_row-Block-2 bs) (k.End ∷ after)) = (tt, t.printed after g) in
-          s.printed (more_branches (hidden-the_row-Block-2 bs) (k.End ∷ after)) (subst AllSpelled (branch_with bd (k.End ∷ after)) others);
+            let others : AllSpelled (k.With ∷ branches_kinds (hidden-the_row-Block-2 bs) (k.End ∷ after)) = (tt, t.printed after g) in
+            s.printed (more_branches (hidden-the_row-Block-2 bs) (k.End ∷ after)) (subst AllSpelled (branch_with bd (k.End ∷ after)) others);
       }
 
   pub arms_kept : {tokens : List Terminal} {arms : List Arm} {last : Option Block} {rest : List Terminal} → Arms tokens arms last rest → TokensSpelled tokens

@@ -1,34 +1,34 @@
 -- Printed statements read back.
-use Rattle.std.proofs.Common.{◌≡◌, refl, sym, ap, ℕ, suc, Bool, true, false, List, [], ◌∷◌, Option, Some, None, map, if◌then◌else◌, subst}
-use Rattle.std.specs.Prelude.{nat_le, option_map}
+use Rattle.std.proofs.Common.{◌≡◌, refl, sym, ap, ℕ, Bool, true, false, List, [], ◌∷◌, Option, Some, None, if◌then◌else◌, subst}
+use Rattle.std.specs.Prelude.{nat_le}
 use mathlib.Core.Former.{this, list_count, none_left}
 use Rattle.ceu_tree.specs.declared.source.Ident.{Ident}
 use Rattle.ceu_tree.specs.declared.source.Label.TheVariants as label
 use Rattle.ceu_tree.specs.declared.source.Source.{Source}
 use Rattle.ceu_tree.specs.declared.source.Source as source
 use Rattle.ceu_tree.specs.declared.source.Source.TheBlock.{hidden-the_row-Item-0, hidden-the_row-Arm-1, hidden-the_row-Block-2, hidden-the_row-Node-3, shape-the_row-Item-0, shape-the_row-Arm-1, shape-the_row-Block-2, shape-the_row-Node-3}
-use Rattle.ceu_tree.specs.declared.source.Item.{Item, Held-Item-value, Item-value-None', Item-value-Some', back-Item-value}
+use Rattle.ceu_tree.specs.declared.source.Item.{Item, Held-Item-value, Item-value-Some', back-Item-value}
 use Rattle.ceu_tree.specs.declared.source.Do.{Do, Do'}
-use Rattle.ceu_tree.specs.declared.source.Block.{Block, Block', roll-Block, Row_of-Node, end_of-Node, more_of-Node}
+use Rattle.ceu_tree.specs.declared.source.Block.{Block, Block', roll-Block, Row_of-Node, more_of-Node}
 use Rattle.ceu_tree.specs.declared.source.Node.{Node}
 use Rattle.ceu_tree.specs.declared.source.Arm.{Arm, Arm'}
-use Rattle.ceu_tree.specs.declared.source.Range.{Range, Range'}
+use Rattle.ceu_tree.specs.declared.source.Range.{Range'}
 use Rattle.ceu_tree.specs.declared.source.Stmt as stmt
 use Rattle.ceu_tree.specs.declared.source.Stmt.{Stmt, Vars', If', Par', Row_of-Item, end_of-Item, more_of-Item, Row_of-Arm, end_of-Arm, more_of-Arm, Row_of-Block, end_of-Block, more_of-Block, Held-Stmt-If-1, Stmt-If-1-None', Stmt-If-1-Some', back-Stmt-If-1}
 use Rattle.ceu_syntax.specs.declared.terminal.Kind.{Kind}
 use Rattle.ceu_syntax.specs.declared.terminal.Kind.TheVariants as k
 use Rattle.ceu_syntax.specs.declared.terminal.Terminal.{Terminal}
-use Rattle.ceu_syntax.specs.Terminals.{saturated, left_bracket, right_bracket}
+use Rattle.ceu_syntax.specs.Terminals.{saturated, right_bracket}
 use Rattle.ceu_syntax.specs.Trees.{ident, block, node, do_block, item, arm, range}
 use Rattle.ceu_syntax.specs.Grammar.{Forms, is_nothing, is_break, is_continue, is_vars, is_alias, is_alias_of, is_events, is_inputs, is_outputs, is_pool, is_code, is_assign, is_emit, is_emit_empty, is_emit_value, is_await, is_spawn, is_async, is_await_async, is_do, is_kill, is_escape, is_escape_value, is_escape_label, is_escape_both, is_finalize, is_if, is_loop, is_times, is_range, is_every, is_every_in, is_watching, is_par, Does, does_plain, does_under, does_named, Sources, is_value, is_wait, is_start, is_done, ItemOf, is_bare, is_initial, Items, last_item, one_item, Statement, is_simple, is_ended, Statements, no_more, skips, one_more, Branches, last_branch, one_branch, Arms, no_else, last_else, else_if}
 use Rattle.ceu_print.specs.Statements.{ends_in_end}
 use Rattle.ceu_reading.specs.Expressions.{exp_kinds, target_kinds}
-use Rattle.ceu_reading.specs.Statements.{ended_kinds, label_kinds, stmt_kinds, source_kinds, do_kinds, items_kinds, more_items, more_arms, last_kinds, branches_kinds, more_branches, nodes_kinds, block_kinds, body_kinds}
-use Rattle.ceu_reading.specs.Places.{nowhere, unplaced_ident, unplaced_stmt, unplaced_source, unplaced_value, unplaced_do, unplaced_block, unplaced_last, unplaced_items, unplaced_arms, unplaced_branches, unplaced_nodes}
+use Rattle.ceu_reading.specs.Statements.{ended_kinds, label_kinds, stmt_kinds, source_kinds, do_kinds, items_kinds, more_arms, last_kinds, branches_kinds, nodes_kinds, block_kinds, body_kinds}
+use Rattle.ceu_reading.specs.Places.{nowhere, unplaced_ident, unplaced_stmt, unplaced_source, unplaced_value, unplaced_do, unplaced_last, unplaced_items, unplaced_arms, unplaced_branches, unplaced_nodes}
 use Rattle.ceu_reading.specs.Spelled.{TokensSpelled}
 use Rattle.ceu_reading.proofs.Placed.{Places, next, placed, Reading}
 use Rattle.ceu_reading.proofs.Expressions.{location_reads, whole_reads, spawns_read, targets_read, awaits_read}
-use Rattle.ceu_reading.proofs.Forms.{lowers_read, exts_read, shares_read, params_read, behind_par, par_first, pars_read, emits_read}
+use Rattle.ceu_reading.proofs.Forms.{lowers_read, exts_read, shares_read, params_read, par_first, pars_read, emits_read}
 use Rattle.ceu_reading.proofs.SpelledExpressions.{location_kept, expression_kept, targets_kept}
 use Rattle.ceu_reading.proofs.SpelledForms.{shares_kept, params_kept, pars_rest}
 use Rattle.ceu_reading.proofs.SpelledStatements.{item_kept, statement_kept, statements_kept}
@@ -83,6 +83,7 @@ saturated_twice n = go (nat_le n 4294967295) refl
 
 mutual
   unfolding stmt_kinds unplaced_stmt shape-the_row-Item-0 shape-the_row-Arm-1 shape-the_row-Block-2 shape-the_row-Node-3 hidden-the_row-Item-0 hidden-the_row-Arm-1 hidden-the_row-Block-2 hidden-the_row-Node-3 roll-Block Carrier.hidden Carrier.roll
+
   forms_read : {tokens : List Terminal} {n : Node} {b : Bool} {rest : List Terminal} → Forms tokens n b rest → TokensSpelled tokens → (after : List Kind) (p : Places)
       → Reading (λ ts m more. Forms ts m b more) bare_node n (stmt_kinds n.stmt after) after p
   forms_read (is_nothing at rest) h after p = record { found = node (p 0) stmt.Nothing; places = next p; derives = is_nothing (p 0) (placed after (next p)); same = refl }
@@ -177,7 +178,7 @@ mutual
   forms_read (is_do {d = d} at x) h after p =
       let r = does_read x h.1 after (next p) in
       subst (λ kinds. Reading (λ ts m more. Forms ts m true more) bare_node (node at (stmt.Do d)) kinds after p) (do_first d after)
-        (record { found = node (p 0) (stmt.Do r.found); places = r.places; derives = is_do (p 0) r.derives; same = λ i. node nowhere (stmt.Do (r.same i)) })
+      (record { found = node (p 0) (stmt.Do r.found); places = r.places; derives = is_do (p 0) r.derives; same = λ i. node nowhere (stmt.Do (r.same i)) })
   forms_read (is_kill x at name rest) h after p =
       record { found = node (p 0) (stmt.Kill (ident x (p 1))); places = next (next p); derives = is_kill x (p 0) (p 1) (placed after (next (next p))); same = refl }
   forms_read (is_escape at rest) h after p = record { found = node (p 0) (stmt.Escape None None); places = next p; derives = is_escape (p 0) (placed after (next p)); same = refl }
@@ -283,13 +284,13 @@ mutual
       let s = statements_read m q.1 others (next o.places) in
       let t = branches_read bd (statements_kept m q.1).rest.1 after (next s.places) in
       subst (λ kinds. Reading (λ ts n more. Forms ts n true more) bare_node (node at (stmt.Par kind (block ns ∷ bs))) kinds after p)
-        (λ i. par_first kind (block_kinds (block ns) (branch_with bd (k.End ∷ after) i)) i)
-        (record {
-          found = node (p 0) (stmt.Par o.found (block s.found ∷ t.found));
-          places = t.places;
-          derives = is_par (p 0) (o.places 0) (s.places 0) o.derives s.derives t.derives;
-          same = λ i. node nowhere (Par' (o.same i) (tt ∷ (t.same i).0) (more_of-Block (Block' (s.same i).0 (s.same i).1) (t.same i).1));
-        })
+      (λ i. par_first kind (block_kinds (block ns) (branch_with bd (k.End ∷ after) i)) i)
+      (record {
+        found = node (p 0) (stmt.Par o.found (block s.found ∷ t.found));
+        places = t.places;
+        derives = is_par (p 0) (o.places 0) (s.places 0) o.derives s.derives t.derives;
+        same = λ i. node nowhere (Par' (o.same i) (tt ∷ (t.same i).0) (more_of-Block (Block' (s.same i).0 (s.same i).1) (t.same i).1));
+      })
 
   does_read : {tokens : List Terminal} {d : Do} {rest : List Terminal} → Does tokens d rest → TokensSpelled tokens → (after : List Kind) (p : Places) → Reading Does unplaced_do d (behind_do d after) after p
   does_read (does_plain end m) h after p =
@@ -321,7 +322,7 @@ mutual
   sources_read (is_done {d = d} at x) h after p =
       let r = does_read x h.1 after (next p) in
       subst (λ kinds. Reading (λ ts u more. Sources ts u true more) unplaced_source (source.Done d) kinds after p) (do_first d after)
-        (record { found = source.Done r.found; places = r.places; derives = is_done (p 0) r.derives; same = λ i. source.Done (r.same i) })
+      (record { found = source.Done r.found; places = r.places; derives = is_done (p 0) r.derives; same = λ i. source.Done (r.same i) })
 
   item_reads : {tokens : List Terminal} {i : Item} {b : Bool} {rest : List Terminal} → ItemOf tokens i b rest → TokensSpelled tokens → (after : List Kind) (p : Places)
       → Reading (λ ts u more. ItemOf ts u b more) bare_item i (items_kinds (hidden-the_row-Item-0 (i ∷ [])) after) after p
@@ -339,14 +340,14 @@ mutual
       let r = item_reads d h (k.Comma ∷ items_kinds (hidden-the_row-Item-0 is) after) p in
       let s = items_read m (item_kept d h).rest.1 after (next r.places) in
       subst (λ kinds. Reading (λ ts us more. Items ts us b more) bare_items (i ∷ is) (items_kinds (hidden-the_row-Item-0 (i ∷ [])) kinds) after p) (item_comma m after)
-        (record { found = r.found ∷ s.found; places = s.places; derives = one_item (r.places 0) r.derives s.derives; same = λ j. (tt ∷ (s.same j).0, more_of-Item (r.same j).0 (r.same j).1 (s.same j).1) })
+      (record { found = r.found ∷ s.found; places = s.places; derives = one_item (r.places 0) r.derives s.derives; same = λ j. (tt ∷ (s.same j).0, more_of-Item (r.same j).0 (r.same j).1 (s.same j).1) })
 
   statement_reads : {tokens : List Terminal} {n : Node} {rest : List Terminal} → Statement tokens n rest → TokensSpelled tokens → (after : List Kind) (p : Places)
       → Reading Statement bare_node n (stmt_kinds n.stmt (ended_kinds (ends_in_end n.stmt) after)) after p
   statement_reads (is_simple {n = n} semicolon d) h after p =
       let r = forms_read d h (k.Semicolon ∷ after) p in
       subst (λ b. Reading Statement bare_node n (stmt_kinds n.stmt (ended_kinds b after)) after p) (sym (forms_end d))
-        (record { found = r.found; places = next r.places; derives = is_simple (r.places 0) r.derives; same = r.same })
+      (record { found = r.found; places = next r.places; derives = is_simple (r.places 0) r.derives; same = r.same })
   statement_reads (is_ended {n = n} d) h after p =
       let r = forms_read d h after p in
       subst (λ b. Reading Statement bare_node n (stmt_kinds n.stmt (ended_kinds b after)) after p) (sym (forms_end d)) (record { found = r.found; places = r.places; derives = is_ended r.derives; same = r.same })
@@ -369,12 +370,12 @@ mutual
       let s = statements_read m h (k.With ∷ branches_kinds (hidden-the_row-Block-2 bs) (k.End ∷ after)) p in
       let t = branches_read bd (statements_kept m h).rest.1 after (next s.places) in
       subst (λ kinds. Reading Branches bare_branches (block ns ∷ bs) (block_kinds (block ns) kinds) after p) (branch_with bd (k.End ∷ after))
-        (record {
-          found = block s.found ∷ t.found;
-          places = t.places;
-          derives = one_branch (s.places 0) s.derives t.derives;
-          same = λ i. (tt ∷ (t.same i).0, more_of-Block (Block' (s.same i).0 (s.same i).1) (t.same i).1);
-        })
+      (record {
+        found = block s.found ∷ t.found;
+        places = t.places;
+        derives = one_branch (s.places 0) s.derives t.derives;
+        same = λ i. (tt ∷ (t.same i).0, more_of-Block (Block' (s.same i).0 (s.same i).1) (t.same i).1);
+      })
 
   arms_read : {tokens : List Terminal} {arms : List Arm} {last : Option Block} {rest : List Terminal} → Arms tokens arms last rest → TokensSpelled tokens → (after : List Kind) (p : Places)
       → Reading Choices bare_choices (arms, last) (more_arms (hidden-the_row-Arm-1 arms) (last_kinds (back-Stmt-If-1 last) after)) after p
