@@ -1,0 +1,5 @@
+pub mod Words
+pub mod Expressions
+pub mod Statements
+pub mod Places
+pub mod Spelled
