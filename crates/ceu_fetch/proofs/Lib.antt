@@ -1,0 +1,3 @@
+pub mod Standing
+pub mod Constants
+pub mod Decoded
