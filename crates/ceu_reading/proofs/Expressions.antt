@@ -1,5 +1,5 @@
 -- Printed expressions, calls and awaits read back.
-use Rattle.std.proofs.Common.{◌≡◌, refl, sym, ap, ◌∙◌, ℕ, suc, ◌≤◌, Bool, true, false, List, [], ◌∷◌, Option, Some, None, if◌then◌else◌, map, subst, arith}
+use Rattle.std.proofs.Common.{◌≡◌, refl, ℕ, suc, ◌≤◌, Bool, true, false, List, [], ◌∷◌, Some, None, if◌then◌else◌, map, subst, arith}
 use Rattle.std.specs.Prelude.{nat_lt}
 use Rattle.ceu_base.specs.declared.kinds.Op1.{Op1}
 use Rattle.ceu_base.specs.declared.kinds.Op1.TheVariants as op1
@@ -22,12 +22,12 @@ use Rattle.ceu_print.specs.Expressions.{tightness}
 use Rattle.ceu_syntax.specs.declared.terminal.Kind.{Kind}
 use Rattle.ceu_syntax.specs.declared.terminal.Kind.TheVariants as k
 use Rattle.ceu_syntax.specs.declared.terminal.Terminal.{Terminal}
-use Rattle.ceu_syntax.specs.Terminals.{token, lower, ext, abs, digits, binary_of, prefix_of, unit_name}
+use Rattle.ceu_syntax.specs.Terminals.{token, binary_of, prefix_of, unit_name}
 use Rattle.ceu_syntax.specs.Terminals.{level as grammar_level}
 use Rattle.ceu_syntax.specs.Trees.{ident, outer, number, truth, variable, alive, one, two, cast, call, spawn}
 use Rattle.ceu_syntax.specs.Expressions.{Location, is_here, is_outer, Expression, is_number, is_truth, is_variable, is_alive, is_paren, is_prefix, is_binary, is_cast, Arguments, last_argument, one_argument, Calls, calls_empty, calls_with, Spawns, spawns, Targets, is_input, is_event, is_time, is_time_expression, Awaits, is_forever, is_code, is_target, is_until}
 use Rattle.ceu_reading.specs.Words.{prefix_kind, binary_kind, lower_kinds}
-use Rattle.ceu_reading.specs.Expressions.{node_kinds, operand_kinds, exp_kinds, more_arguments, argument_kinds, call_kinds, spawn_kinds, target_kinds, awaited_kinds}
+use Rattle.ceu_reading.specs.Expressions.{node_kinds, exp_kinds, more_arguments, argument_kinds, call_kinds, spawn_kinds, target_kinds, awaited_kinds}
 use Rattle.ceu_reading.specs.Places.{nowhere, unplaced_ident, unplaced_node, unplaced_exp, unplaced_call, unplaced_spawn, unplaced_target, unplaced_await}
 use Rattle.ceu_reading.proofs.Placed.{Places, next, placed, Reading}
 use denote.Hole.Carrier
@@ -41,43 +41,11 @@ prefix_known op1.Compl = refl
 
 binary_known : (op : Op2) → binary_of (binary_kind op) ≡ Some op
 binary_known op2.Or = refl
-binary_known op2.And = refl
-binary_known op2.Eq = refl
-binary_known op2.Ne = refl
-binary_known op2.Lt = refl
-binary_known op2.Gt = refl
-binary_known op2.Le = refl
-binary_known op2.Ge = refl
-binary_known op2.BitOr = refl
-binary_known op2.BitXor = refl
-binary_known op2.BitAnd = refl
-binary_known op2.Shl = refl
-binary_known op2.Shr = refl
-binary_known op2.Add = refl
-binary_known op2.Sub = refl
-binary_known op2.Mul = refl
-binary_known op2.Div = refl
-binary_known op2.Rem = refl
+binary_known _ = refl
 
 levels_agree : (op : Op2) → level op ≡ grammar_level op
 levels_agree op2.Or = refl
-levels_agree op2.And = refl
-levels_agree op2.Eq = refl
-levels_agree op2.Ne = refl
-levels_agree op2.Lt = refl
-levels_agree op2.Gt = refl
-levels_agree op2.Le = refl
-levels_agree op2.Ge = refl
-levels_agree op2.BitOr = refl
-levels_agree op2.BitXor = refl
-levels_agree op2.BitAnd = refl
-levels_agree op2.Shl = refl
-levels_agree op2.Shr = refl
-levels_agree op2.Add = refl
-levels_agree op2.Sub = refl
-levels_agree op2.Mul = refl
-levels_agree op2.Div = refl
-levels_agree op2.Rem = refl
+levels_agree _ = refl
 
 binary_derives : {q : ℕ} {tokens : List Terminal} {a b : Exp} {right rest : List Terminal} (op : Op2) (at : Pos) → q ≤ level op
     → Expression (level op) tokens a (token (binary_kind op) at ∷ right) → Expression (suc (level op)) right b rest → Expression q tokens (two op at a b) rest
@@ -152,7 +120,7 @@ whole_reads d after p = expression_reads d 0 (omega arith) after p
 
 -- ---- calls
 
-comma_first : {tokens : List Terminal} {es : List Exp} {rest : List Terminal} → Arguments tokens es rest → (after : List Kind) → k.Comma ∷ argument_kinds es after ≡ more_arguments es after
+pub comma_first : {tokens : List Terminal} {es : List Exp} {rest : List Terminal} → Arguments tokens es rest → (after : List Kind) → k.Comma ∷ argument_kinds es after ≡ more_arguments es after
 comma_first (last_argument close d) after = refl
 comma_first (one_argument comma d m) after = refl
 
@@ -165,7 +133,7 @@ arguments_read (one_argument {e = e} {es = es} comma d m) after p =
     let r = whole_reads d (k.Comma ∷ argument_kinds es (k.CloseParen ∷ after)) p in
     let s = arguments_read m after (next r.places) in
     subst (λ kinds. Reading Arguments (map unplaced_exp) (e ∷ es) (exp_kinds e kinds) after p) (comma_first m (k.CloseParen ∷ after))
-      (record { found = r.found ∷ s.found; places = s.places; derives = one_argument (r.places 0) r.derives s.derives; same = λ i. r.same i ∷ s.same i })
+    (record { found = r.found ∷ s.found; places = s.places; derives = one_argument (r.places 0) r.derives s.derives; same = λ i. r.same i ∷ s.same i })
 
 pub calls_read : {tokens : List Terminal} {c : Call} {rest : List Terminal} → Calls tokens c rest → (after : List Kind) (p : Places) → Reading Calls unplaced_call c (call_kinds c after) after p
 calls_read (calls_empty x at paren close rest) after p =

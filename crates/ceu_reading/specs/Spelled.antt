@@ -1,5 +1,5 @@
 -- Kinds of which some token is.
-use Rattle.std.specs.Prelude.{◌≡◌, ℕ, ◌<◌, List, [], ◌∷◌, length, Ok}
+use Rattle.std.specs.Prelude.{◌≡◌, ◌<◌, List, [], ◌∷◌, length, Ok}
 use Rattle.ceu_lex.specs.declared.token.TokenKind.TheVariants as lexed
 use Rattle.ceu_lex.specs.Lexemes.{lexeme, time_limit}
 use Rattle.ceu_syntax.specs.declared.terminal.Kind.{Kind}

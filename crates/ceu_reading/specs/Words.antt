@@ -1,5 +1,5 @@
 -- The tokens of names, operators and types. Each definition has the tokens that follow as its last argument, and puts its own before them.
-use Rattle.std.specs.Prelude.{ℕ, Bool, true, false, List, [], ◌∷◌, Ok, Err}
+use Rattle.std.specs.Prelude.{ℕ, Bool, true, false, List, ◌∷◌, Ok, Err}
 use Rattle.ceu_base.specs.declared.kinds.Op1.{Op1}
 use Rattle.ceu_base.specs.declared.kinds.Op1.TheVariants as op1
 use Rattle.ceu_base.specs.declared.kinds.Op2.{Op2}
