@@ -11,3 +11,4 @@ pub mod Expressions
 pub mod Parts
 pub mod Statements
 pub mod Spelling
+pub mod Again

@@ -7,7 +7,9 @@ ghost use Rattle.ceu_lex.specs.Texts.{Reads};
 ghost use Rattle.ceu_print.specs.Statements.{program_text};
 ghost use Rattle.ceu_reading.specs.Spelled.{AllSpelled, TokensSpelled};
 ghost use Rattle.ceu_reading.specs.Statements.{kinds_of};
+ghost use Rattle.ceu_spelling.specs.Again.{ReadsBack};
 ghost use Rattle.ceu_spelling.specs.Kinds.{HasKinds};
+ghost use Rattle.ceu_syntax.specs.Grammar.{Derives};
 ghost use Rattle.ceu_syntax.specs.Terminals.{terminals};
 ghost use Rattle.ceu_tree.specs.declared.source.Tree.{Tree};
 
@@ -19,4 +21,10 @@ pub fn tokens_are_spelled()
 /// The printed text of a tree whose kinds of tokens are spelled has tokens, and just of these kinds.
 pub fn printed_texts_have_tokens()
     ensures { (t : Tree) → AllSpelled (kinds_of t) → HasKinds (program_text t) (kinds_of t) }
+{}
+
+/// What the printer prints reads back: the printed text of a tree that the tokens of some text derive has tokens, and these derive the
+/// same tree but for positions.
+pub fn printed_text_reads_back()
+    ensures { (text : List ℕ) (tokens : List Token) (t : Tree) → Reads text tokens → Derives text tokens t → ReadsBack t }
 {}
