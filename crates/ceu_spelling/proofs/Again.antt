@@ -1,0 +1,23 @@
+-- What is printed of a tree that some tokens derive reads back.
+use Rattle.std.proofs.Common.{◌≡◌, refl, sym, subst, ℕ, List, map}
+use Rattle.ceu_lex.specs.declared.token.Token.{Token}
+use Rattle.ceu_lex.specs.Texts.{Reads}
+use Rattle.ceu_syntax.specs.Grammar.{Derives, Program}
+use Rattle.ceu_syntax.specs.Terminals.{terminals}
+use Rattle.ceu_syntax.specs.Trees.{tree}
+use Rattle.ceu_tree.specs.declared.source.Node.{Node}
+use Rattle.ceu_tree.specs.declared.source.Tree.{Tree}
+use Rattle.ceu_print.specs.Statements.{program_text}
+use Rattle.ceu_reading.proofs.Programs.{all_spelled, reads_back}
+use Rattle.ceu_spelling.specs.Again.{ReadsBack}
+use Rattle.ceu_spelling.proofs.Spelling.{tokens_spelled, printed_kinds}
+
+program_back : (text : List ℕ) (tokens : List Token) (ns : List Node) → Reads text tokens → Program (terminals text tokens) ns → ReadsBack (tree ns)
+program_back text tokens ns reads program =
+    let spelled = tokens_spelled text tokens reads in
+    let printed = printed_kinds (tree ns) (all_spelled (terminals text tokens) ns program spelled) in
+    let back = reads_back (terminals text tokens) ns program spelled (terminals (program_text (tree ns)) printed.0) printed.2 in
+    record { tokens = printed.0; again = tree back.0; reads = printed.1; derives = (back.0, back.1, refl); same = back.2 }
+
+pub derived_back : (text : List ℕ) (tokens : List Token) (t : Tree) → Reads text tokens → Derives text tokens t → ReadsBack t
+derived_back text tokens t reads derived = subst ReadsBack (sym derived.2) (program_back text tokens derived.0 reads derived.1)

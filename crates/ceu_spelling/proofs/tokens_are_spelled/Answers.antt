@@ -1,0 +1,5 @@
+use Rattle.ceu_spelling.proofs.Spelling.{tokens_spelled}
+use Rattle.ceu_spelling.proofs.tokens_are_spelled.Goals as goal
+
+pub returns : goal.returns
+returns c text tokens reads = tokens_spelled text tokens reads
