@@ -47,7 +47,7 @@ length-spelled (instr.RangeNext a i c) = refl
 length-spelled (instr.Limit a n p) = refl
 length-spelled _ = refl
 
-size-with_target : (i : Instr) (n : ℕ) → size (with_target i n) ≡ size i
+pub size-with_target : (i : Instr) (n : ℕ) → size (with_target i n) ≡ size i
 size-with_target (instr.Jump c) n = refl
 size-with_target (instr.JumpIfFalse c) n = refl
 size-with_target (instr.Fork g c) n = refl
@@ -56,7 +56,7 @@ size-with_target (instr.RangeNext a i c) n = refl
 size-with_target _ n = refl
 
 -- instructions stand behind the bytes before them
-has_all : (is : List Instr) (before behind : List ℕ) → HasAt (before ++ (flat_map spelled is ++ behind)) (length before) is
+pub has_all : (is : List Instr) (before behind : List ℕ) → HasAt (before ++ (flat_map spelled is ++ behind)) (length before) is
 has_all [] before behind = tt
 has_all (i ∷ is) before behind =
     let split : before ++ (flat_map spelled (i ∷ is) ++ behind) ≡ before ++ (spelled i ++ (flat_map spelled is ++ behind)) = ap (λ (bs : List ℕ). before ++ (bs ++ behind)) (flat_map-cons spelled i is) ∙ ap (λ (bs : List ℕ). before ++ bs) (append_assoc (spelled i) (flat_map spelled is) behind) in
@@ -74,7 +74,7 @@ resolved-append at (Mark l ∷ a) b = resolved-append at a b
 resolved-append at (Plain i ∷ a) b = ap (λ (r : List Instr). i ∷ r) (resolved-append at a b)
 resolved-append at (Jump i l ∷ a) b = ap (λ (r : List Instr). with_target i (at l) ∷ r) (resolved-append at a b)
 
-marks-append : (label : ℕ) (a b : List Line) → marks label (a ++ b) ≡ marks label a + marks label b
+pub marks-append : (label : ℕ) (a b : List Line) → marks label (a ++ b) ≡ marks label a + marks label b
 marks-append label [] b = omega arith
 marks-append label (line ∷ a) b = let e = marks-append label a b in omega arith
 
@@ -91,7 +91,7 @@ length-resolved at (Jump i l ∷ lines) =
 pub length-assembled : (lines : List Line) → length (assembled lines) ≡ code_size lines
 length-assembled lines = length-resolved (λ l. offset_of l lines) lines
 
-offset_at : (label : ℕ) (before behind : List Line) → marks label before ≡ 0 → offset_of label (before ++ Mark label ∷ behind) ≡ code_size before
+pub offset_at : (label : ℕ) (before behind : List Line) → marks label before ≡ 0 → offset_of label (before ++ Mark label ∷ behind) ≡ code_size before
 offset_at label [] behind h = ap (λ (b : Bool). if b then 0 else (0 + offset_of label behind)) (eq-eqb label label refl)
 offset_at label (line ∷ before) behind h = go (is_mark label line) (offset_at label before behind) h
   where

@@ -1,3 +1,4 @@
 pub mod Standing
 pub mod Constants
 pub mod Decoded
+pub mod Lines
