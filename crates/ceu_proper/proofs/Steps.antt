@@ -99,7 +99,7 @@ unfolding declared
 inside_deep c t x w P h =
     subst (λ r. Always P (declared c t r x w)) (sym (inside_some w.scopes h)) (never P (is_taken w.scopes x.name) x.pos _)
 
-with_name_length : (x : List ℕ) (k : Known) (s : List Scope) → length (with_name x k s) ≡ length s
+pub with_name_length : (x : List ℕ) (k : Known) (s : List Scope) → length (with_name x k s) ≡ length s
 with_name_length x k [] = refl
 with_name_length x k (s ∷ outside) = refl
 
