@@ -38,7 +38,7 @@ alike_stay w (Some e) n a b c d h k = refl
 alike_stay w None n a b c d h k = alike_plus w a b (times n c) (times n d) h (alike_times w n c d k)
 
 -- the first branch takes no turn of its own
-first_free : (w : Part) (x y : Cost) → pick w (without_one (plus (plus (cost 1 0) x) y)) ≡ pick w x + pick w y
+pub first_free : (w : Part) (x y : Cost) → pick w (without_one (plus (plus (cost 1 0) x) y)) ≡ pick w x + pick w y
 first_free part.Turns x y = omega arith
 first_free part.Levels x y = omega arith
 

@@ -1,10 +1,11 @@
 -- What a search along the arrows has reached, where no arrow leads out of it, is just what paths lead to.
 use Rattle.std.proofs.Common.{◌≡◌, refl, sym, ap, ◌∙◌, ℕ, zero, suc, ◌+◌, ◌<◌, ◌≤◌, Bool, true, false, not, ◌&&◌, ◌||◌, ◌==◌, ◌⊎◌, inl, inr, subst, cond, List, [], ◌∷◌, ◌++◌, length, take, get_or, arith}
-use Rattle.std.specs.Prelude.{Option, Some, None, find}
+use Rattle.std.specs.Prelude.{Option, Some, None, find, nat_lt}
 use Rattle.std.specs.List.{Contains}
+use Rattle.ceu_tree.specs.Needs.{entry}
 use Rattle.ceu_tree.specs.Paths.{flag}
 use Rattle.ceu_bound.specs.declared.graph.Arrow.{Arrow}
-use Rattle.ceu_bound.specs.Graph.{arrow, Path, stays, goes, is_member, is_open, leaks}
+use Rattle.ceu_bound.specs.Graph.{arrow, Path, stays, goes, is_member, is_open, leaks, rises, NeverRises}
 
 -- ---- membership
 
@@ -174,3 +175,26 @@ pub at_itself : (A : List Arrow) (k : ℕ) (d : Arrow) → k < length A → get_
 at_itself [] k d h = absurd (omega arith)
 at_itself (x ∷ xs) zero d h = refl
 at_itself (x ∷ xs) (suc k) d h = at_itself xs k d (omega arith)
+
+-- ---- numbers
+
+rise_at : (N : List ℕ) (A : List Arrow) (k : ℕ) (a : Arrow) → NeverRises N A → k < length A → rises N (get_or A k a) ≡ false
+rise_at N [] k a h below = absurd (omega arith)
+rise_at N (x ∷ xs) zero a h below = (none_head (rises N x) x (find (rises N) xs) h).0
+rise_at N (x ∷ xs) (suc k) a h below = rise_at N xs k a (none_head (rises N x) x (find (rises N) xs) h).1 (omega arith)
+
+at_most : (x y : ℕ) → nat_lt x y ≡ false → y ≤ x
+at_most x y h = grind (arith, h)
+
+fall_step : (N : List ℕ) (A : List Arrow) (e f : ℕ) → NeverRises N A → Contains A (arrow e f) → entry f N ≤ entry e N
+fall_step N A e f h (k, below, at) = at_most (entry e N) (entry f N) (sym (ap (rises N) at) ∙ rise_at N A k (arrow e f) h below)
+
+-- along a path the numbers don't rise
+pub path_falls : (N : List ℕ) (A : List Arrow) (e g : ℕ) → NeverRises N A → Path A e g → entry g N ≤ entry e N
+path_falls N A _ _ h (stays e) = omega arith
+path_falls N A _ _ h (goes e f g c p) = omega (arith, fall_step N A e f h c, path_falls N A f g h p)
+
+-- without numbers nothing rises
+pub none_rises : (A : List Arrow) → NeverRises [] A
+none_rises [] = refl
+none_rises (a ∷ more) = none_rises more

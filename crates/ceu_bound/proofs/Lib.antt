@@ -7,7 +7,9 @@ pub mod Agree
 pub mod CodeTables
 pub mod Woken
 pub mod WakeLaws
+pub mod GroupLaws
 pub mod InstanceLaws
+pub mod Rising
 pub mod Rounds
 pub mod VerdictLaws
 pub mod BoundLaws

@@ -19,7 +19,7 @@ use Rattle.ceu_bound.specs.declared.graph.Arrow.{Arrow}
 use Rattle.ceu_bound.specs.declared.verdict.Broken.{Broken}
 use Rattle.ceu_bound.specs.Graph.{Path}
 use Rattle.ceu_bound.specs.PhaseB.{LoopBreaks, NotAfter, rank, goes_round}
-use Rattle.ceu_bound.specs.Verdict.{broken_at, IsVerdict, BreaksAmong, IsFirstOf, is_not_after, earlier}
+use Rattle.ceu_bound.specs.Verdict.{broken_at, IsVerdict, BreaksAmong, IsFirstOf, is_not_after, is_behind, earlier}
 
 -- ---- one loop
 
@@ -153,6 +153,18 @@ after_trans p q u r s v x y = record {
       omega (arith, x.number a c, y.number b d);
 }
 
+behind_at : (b : Broken) (p : Pos) (s : Rule) (t : Bool) → (b.pos.line == p.line) ≡ t → (if t then nat_lt b.pos.col p.col else nat_lt b.pos.line p.line) ≡ true → NotAfter b.pos b.rule p s
+behind_at b p s true e h =
+    let lt : b.pos.col < p.col = grind (arith, h) in
+    let line = number b.pos.line p.line e in
+    record { line = omega (arith, line); col = λ e. omega (arith, lt); number = λ e f. absurd (omega (arith, lt, f)) }
+behind_at b p s false e h =
+    let lt : b.pos.line < p.line = grind (arith, h) in
+    record { line = omega (arith, lt); col = λ e. absurd (omega (arith, lt, e)); number = λ e f. absurd (omega (arith, lt, e)) }
+
+behind : (b : Broken) (p : Pos) (s : Rule) → is_behind (Some b) p ≡ true → NotAfter b.pos b.rule p s
+behind b p s h = behind_at b p s (b.pos.line == p.line) refl h
+
 module _ (P : List Bool) (A : List Arrow) (ls : List TrailLoop) (l : TrailLoop) where
   moved : (m : TrailLoop) (s : Rule) → l ≡ m → LoopBreaks P A m s → LoopBreaks P A l s
   moved m s e broken = let Q : TrailLoop → Type 0 = λ k. LoopBreaks P A k s in subst Q (sym e) broken
@@ -193,6 +205,17 @@ module _ (P : List Bool) (A : List Arrow) (ls : List TrailLoop) (l : TrailLoop) 
     λ m c s broken. elim (Contains-push_cases ls l m c) as (λ _. NotAfter l.pos r m.pos s) [ inl within ↦ absurd (first m within s broken) | inr e ↦ own m r s e (verdict.1 s (moved m s e broken)) ],
   )
   first_more (Some b) (Some r) first verdict = chosen b r (is_not_after b (broken_at l.pos r)) (ordered b (broken_at l.pos r)) first verdict
+
+  -- a loop behind the first break changes nothing
+  pub first_kept : (f : Option Broken) → is_behind f l.pos ≡ true → IsFirstOf P A ls f → IsFirstOf P A (ls ++ l ∷ []) f
+  first_kept None h first = absurd (cc)
+  first_kept (Some b) h first = (
+    kept b first.0,
+    λ m c s broken. elim (Contains-push_cases ls l m c) as (λ _. NotAfter b.pos b.rule m.pos s) [
+      | inl within ↦ first.1 m within s broken
+      | inr e ↦ (let Q : TrailLoop → Type 0 = λ k. NotAfter b.pos b.rule k.pos s in subst Q e (behind b l.pos s h))
+    ],
+  )
 
 pub first_none : (P : List Bool) (A : List Arrow) → IsFirstOf P A [] None
 first_none P A = λ l c r broken. omega (arith, c.1)

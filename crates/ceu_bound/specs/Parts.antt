@@ -1,5 +1,5 @@
 -- A cost has two parts, turns and levels, which the code measures one after the other.
-use Rattle.std.specs.Prelude.{◌≡◌, ℕ, List, map}
+use Rattle.std.specs.Prelude.{◌≡◌, ℕ, ◌≤◌, List, map}
 use Rattle.ceu_tree.specs.Costs.{Cost, cost, cost_at}
 use Rattle.ceu_paths.specs.Cap.{cap}
 use Rattle.ceu_bound.specs.declared.tables.Part.{Part}
@@ -32,3 +32,10 @@ Same w a b = cap (pick w a) ≡ cap (pick w b)
 
 abbrev pub SameTables : Part → List Cost → List Cost → Type 0
 SameTables w A B = (k : ℕ) → Same w (cost_at k A) (cost_at k B)
+
+-- at most as much in a part, up to the cap
+abbrev pub AtMost : Part → Cost → Cost → Type 0
+AtMost w a b = cap (pick w a) ≤ cap (pick w b)
+
+abbrev pub TablesAtMost : Part → List Cost → List Cost → Type 0
+TablesAtMost w A B = (k : ℕ) → AtMost w (cost_at k A) (cost_at k B)

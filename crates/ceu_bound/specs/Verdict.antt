@@ -1,5 +1,5 @@
 -- The verdict on a loop, and the first of the rules that loops break, as the code finds them.
-use Rattle.std.specs.Prelude.{◌≡◌, ◌==◌, nat_lt, nat_le, Bool, if◌then◌else◌, List, Option, Some, None}
+use Rattle.std.specs.Prelude.{◌≡◌, ◌==◌, nat_lt, nat_le, Bool, false, if◌then◌else◌, List, Option, Some, None}
 use Rattle.std.specs.List.{Contains}
 use Rattle.ceu_base.specs.declared.kinds.Pos.{Pos}
 use Rattle.ceu_base.specs.declared.kinds.Rule.{Rule}
@@ -33,3 +33,8 @@ abbrev pub earlier : Option Broken → Pos → Option Rule → Option Broken
 earlier first p None = first
 earlier None p (Some r) = Some (broken_at p r)
 earlier (Some b) p (Some r) = if is_not_after b (broken_at p r) then Some b else Some (broken_at p r)
+
+-- whether a place is behind that of a rule that is broken
+abbrev pub is_behind : Option Broken → Pos → Bool
+is_behind None p = false
+is_behind (Some b) p = if b.pos.line == p.line then nat_lt b.pos.col p.col else nat_lt b.pos.line p.line

@@ -1,5 +1,5 @@
 -- What the loops that an event paces cost where it is emitted, by the tables of the code.
-use Rattle.std.specs.Prelude.{◌≡◌, ℕ, zero, suc, ◌+◌, ◌*◌, if◌then◌else◌, ◌==◌, List, [], ◌∷◌, drop, Option, None}
+use Rattle.std.specs.Prelude.{◌≡◌, ℕ, zero, suc, ◌+◌, ◌*◌, ◌<◌, length, if◌then◌else◌, ◌==◌, List, [], ◌∷◌, drop, Option, None}
 use Rattle.ceu_tree.specs.declared.kernel.KBlock.{KBlock, out-KBlock}
 use Rattle.ceu_tree.specs.declared.kernel.Kernel.{Kernel}
 use Rattle.ceu_tree.specs.declared.kernel.KCode.{KCode}
@@ -8,6 +8,7 @@ use Rattle.ceu_tree.specs.Greatest.{total}
 use Rattle.ceu_tree.specs.Costs.{paced, is_event, is_owner}
 use Rattle.ceu_paths.specs.Loops.{TrailLoop, block_loops}
 use Rattle.ceu_bound.specs.declared.emissions.Wake.{Wake}
+use Rattle.ceu_bound.specs.declared.settling.Group.{Group}
 use Rattle.ceu_bound.specs.declared.tables.Tables.{Tables}
 use Rattle.ceu_bound.specs.Parts.{turn}
 use Rattle.ceu_bound.specs.Measured.{enter_list}
@@ -39,6 +40,20 @@ module _ (T : Tables) (e : ℕ) where
   codes_cost es k (c ∷ cs) [] = 0
   codes_cost es k (c ∷ cs) (n ∷ ns) = copies es k n e * body_cost c.body + codes_cost es (k + 1) cs ns
 
+-- over the program, whose codes have so many instances
+abbrev pub woken_cost : Tables → Kernel → List ℕ → ℕ → ℕ
+woken_cost T K counts e = body_cost T e K.body + codes_cost T e K.events 0 K.codes counts
+
 -- the wakings of a program, whose codes have so many instances
 abbrev pub AreWakes : Kernel → List ℕ → List Wake → Type 0
-AreWakes K counts wakes = (T : Tables) (e : ℕ) → total (wake_cost T e) wakes ≡ body_cost T e K.body + codes_cost T e K.events 0 K.codes counts
+AreWakes K counts wakes = (T : Tables) (e : ℕ) → total (wake_cost T e) wakes ≡ woken_cost T K counts e
+
+-- what the wakings in group number k cost where the event e is emitted
+abbrev pub group_cost : Tables → ℕ → ℕ → List Group → ℕ
+group_cost T e k [] = 0
+group_cost T e zero (g ∷ gs) = total (wake_cost T e) g.wakes.items
+group_cost T e (suc k) (g ∷ gs) = group_cost T e k gs
+
+-- the wakings of a program, those of each event in a group of its own
+abbrev pub AreGroups : Kernel → List ℕ → List Group → Type 0
+AreGroups K counts groups = (T : Tables) (e : ℕ) → e < length groups → group_cost T e e groups ≡ woken_cost T K counts e

@@ -1,17 +1,10 @@
-// What an emission of each event costs: the loops that it wakes.
-ghost use Rattle.std.specs.Prelude.{◌≡◌, true, [], ℕ, ◌+◌, ◌*◌, ◌<◌, drop, length, map, OnOk, IfOk, slice_index, if◌then◌else◌, ◌==◌};
+// The loops that an emission of each event wakes.
+ghost use Rattle.std.specs.Prelude.{◌≡◌, ℕ, ◌+◌, ◌*◌, drop, length, map, OnOk, IfOk};
 ghost use Rattle.ceu_tree.specs.Greatest.{total};
-ghost use Rattle.ceu_tree.specs.Paths.{passes_from};
-ghost use Rattle.ceu_tree.specs.Costs.{emissions, instances_from};
-ghost use Rattle.ceu_paths.specs.Cap.{cap};
 ghost use Rattle.ceu_paths.specs.Found.{seen};
 ghost use Rattle.ceu_bound.specs.declared.tables.Tables.{Tables as TheTables};
-ghost use Rattle.ceu_bound.specs.Parts.{costs, turn, SameTables};
-ghost use Rattle.ceu_bound.specs.Measured.{enter_list};
 ghost use Rattle.ceu_bound.specs.Waking as spec;
 
-use crate::measures::{nodes_measure, plus, product, turn};
-use crate::tables::Tables;
 use ceu_paths::{FoundLoop, find_loops, paced};
 use ceu_tree::{KBlock, KCode, KEvent, KNode, Kernel};
 use std::alloc::{AllocError, Global};
@@ -47,14 +40,6 @@ fn after_first(nodes: &[KNode]) -> &[KNode]
         [] => nodes,
         [_, rest @ ..] => rest,
     }
-}
-
-// What a waking costs, by the tables.
-fn wake_measure(alloc: Global, tables: &Tables, wake: &Wake) -> Result<u64, AllocError>
-    ensures { IfOk result (λ cost. cost ≡ cap (wake.now.copies * (turn tables.now.part + enter_list tables.now wake.now.rest.now))) }
-{
-    let rest = nodes_measure(alloc, tables, wake.rest)?;
-    Ok(product(wake.copies, plus(turn(tables.part), rest.enter)))
 }
 
 // Adds the waking of a loop that an event paces.
@@ -146,62 +131,4 @@ pub fn all_wakes<'k>(
     body_wakes(alloc, &kernel.body, events, 0, 1, &mut wakes)?;
     codes_wakes(alloc, kernel.codes.items(), events, instances, &mut wakes)?;
     Ok(wakes)
-}
-
-fn add_at(costs: &mut Vec<u64>, number: u32, cost: u64)
-    ensures len { length costs.new.items ≡ length costs.old.items }
-    ensures each { (e : ℕ) → e < length costs.old.items → slice_index costs.new.items e ≡ (if number == e then cap (slice_index costs.old.items e + cost) else slice_index costs.old.items e) }
-{
-    let at = number as usize;
-    if at < costs.len() {
-        costs[at] = plus(costs[at], cost);
-    }
-}
-
-// The emissions' costs, each with the wakings by the tables.
-fn round(
-    alloc: Global,
-    tables: &Tables,
-    wakes: &[Wake],
-    count: usize,
-) -> Result<Vec<u64>, AllocError>
-    ensures len { IfOk result (λ costs. length costs.items ≡ count) }
-    ensures each { IfOk result (λ costs. (e : ℕ) → e < count → slice_index costs.items e ≡ cap (1 + total (spec.wake_cost tables.now e) wakes.now)) }
-{
-    let mut costs = vec![in alloc; 1u64; count]?;
-    for wake in wakes {
-        let cost = wake_measure(alloc, tables, wake)?;
-        add_at(&mut costs, wake.event, cost);
-    }
-    Ok(costs)
-}
-
-fn same_costs(first: &[u64], second: &[u64]) -> bool
-    ensures { result ≡ true → first.now ≡ second.now }
-{
-    first == second
-}
-
-/// Fills the table of the events: rounds along the emissions until nothing changes, at most as many as there are events.
-pub fn settle(
-    alloc: Global,
-    tables: &mut Tables,
-    kernel: &Kernel,
-    wakes: &[Wake],
-) -> Result<(), AllocError>
-    requires empty { tables.old.events.items ≡ [] }
-    requires passing { tables.old.passing.items ≡ passes_from [] kernel.now.codes }
-    requires wakes { spec.AreWakes kernel.now (map cap (instances_from kernel.now.body 0 kernel.now.codes)) wakes.now }
-    ensures same { OnOk result (tables.new ≡ record tables.old { events = tables.new.events }) }
-    ensures events { OnOk result (SameTables tables.old.part (costs tables.new.events.items) (emissions kernel.now (length kernel.now.events))) }
-{
-    let count = kernel.events.items().len();
-    for done in 0..count {
-        let costs = round(alloc, tables, wakes, count)?;
-        if same_costs(&costs, &tables.events) {
-            return Ok(());
-        }
-        tables.events = costs;
-    }
-    Ok(())
 }

@@ -1,7 +1,8 @@
 // Arrows between events, and which events lead where.
 ghost use Rattle.std.specs.Prelude.{◌≡◌, true, false, find, IfOk};
+ghost use Rattle.ceu_tree.specs.Needs.{entry};
 ghost use Rattle.ceu_tree.specs.Paths.{flag};
-ghost use Rattle.ceu_bound.specs.Graph.{Path, is_member, is_open, leaks};
+ghost use Rattle.ceu_bound.specs.Graph.{NeverRises, Path, is_member, is_open, leaks, rises};
 
 use std::alloc::{AllocError, Global};
 
@@ -133,12 +134,13 @@ fn follows(arrows: &[Arrow], way: &[usize], source: u32, target: u32) -> bool
 
 // The first arrow from each event, and behind each arrow the next one from the same event; their number where there is none.
 #[derive(Drop)]
-struct Chains {
-    heads: Vec<usize>,
-    links: Vec<usize>,
+pub struct Chains {
+    pub heads: Vec<usize>,
+    pub links: Vec<usize>,
 }
 
-fn linked(alloc: Global, arrows: &[Arrow], events: usize) -> Result<Chains, AllocError> {
+/// The arrows as a list for each of so many events.
+pub fn linked(alloc: Global, arrows: &[Arrow], events: usize) -> Result<Chains, AllocError> {
     let mut heads = vec![in alloc; arrows.len(); events]?;
     let mut links = Vec::new(alloc);
     for (at, arrow) in arrows.iter().enumerate() {
@@ -247,4 +249,60 @@ pub fn reaches(
         return Ok(false);
     }
     reaches_slowly(alloc, arrows, source, target)
+}
+
+#[tactic(auto, using(ceu_tree::proofs::TableLaws::entries))]
+fn number_of(numbers: &[usize], event: u32) -> usize
+    ensures { result ≡ entry event numbers.now }
+{
+    let at = event as usize;
+    if at < numbers.len() { numbers[at] } else { 0 }
+}
+
+fn rises(numbers: &[usize], arrow: Arrow) -> bool
+    ensures { result ≡ rises numbers.now arrow }
+{
+    number_of(numbers, arrow.source) < number_of(numbers, arrow.target)
+}
+
+// An arrow to an event with a greater number.
+#[tactic(auto, using(crate::proofs::GraphLaws::finds))]
+fn rise(numbers: &[usize], arrows: &[Arrow]) -> Option<Arrow>
+    ensures { result ≡ find (rises numbers.now) arrows.now }
+{
+    for arrow in arrows {
+        if rises(numbers, *arrow) {
+            return Some(*arrow);
+        }
+    }
+    None
+}
+
+/// Whether no arrow leads to an event with a greater number; an event that has none counts as one with the number 0.
+pub fn never_rises(numbers: &[usize], arrows: &[Arrow]) -> bool
+    ensures { result ≡ true → NeverRises numbers.now arrows.now }
+{
+    match rise(numbers, arrows) {
+        None => true,
+        Some(_) => false,
+    }
+}
+
+/// Whether a path of arrows leads from one event to another, where no arrow leads to an event with a greater number: a search is made
+/// only where the numbers leave it open.
+pub fn reaches_by_number(
+    alloc: Global,
+    arrows: &[Arrow],
+    numbers: &[usize],
+    source: u32,
+    target: u32,
+) -> Result<bool, AllocError>
+    requires { NeverRises numbers.now arrows.now }
+    ensures found { IfOk result (λ answer. answer ≡ true → Path arrows.now source target) }
+    ensures none { IfOk result (λ answer. answer ≡ false → Path arrows.now source target → ⊥) }
+{
+    if number_of(numbers, source) < number_of(numbers, target) {
+        return Ok(false);
+    }
+    reaches(alloc, arrows, numbers.len(), source, target)
 }

@@ -8,6 +8,8 @@ mod emissions;
 mod graph;
 mod instances;
 mod measures;
+mod order;
+mod settling;
 mod tables;
 mod verdict;
 mod weights;

@@ -1,14 +1,15 @@
 // Which rule on bounds each loop breaks, and which of them comes first.
-ghost use Rattle.std.specs.Prelude.{◌≡◌, ◌++◌, ℕ, true, false, map, IfOk, OnOk};
+ghost use Rattle.std.specs.Prelude.{◌≡◌, ◌++◌, ◌∷◌, [], List, ℕ, true, false, map, IfOk, OnOk};
 ghost use Rattle.std.specs.List.{Contains};
 ghost use Rattle.ceu_paths.specs.Joined.{joined};
 ghost use Rattle.ceu_paths.specs.Emits.{block_emits};
 ghost use Rattle.ceu_paths.specs.Found.{seen};
-ghost use Rattle.ceu_bound.specs.Graph.{arrow, Path};
+ghost use Rattle.ceu_paths.specs.Loops.{TrailLoop};
+ghost use Rattle.ceu_bound.specs.Graph.{arrow, NeverRises, Path};
 ghost use Rattle.ceu_bound.specs.PhaseB as spec;
 ghost use Rattle.ceu_bound.specs.Verdict as verdict;
 
-use crate::graph::{Arrow, reaches};
+use crate::graph::{Arrow, reaches_by_number};
 use ceu_base::{Pos, Rule};
 use ceu_paths::{
     Exit, FoundLoop, block_exits, constant_bound, emit_in, find_loops, has_exit, paced,
@@ -82,15 +83,16 @@ pub fn all_loops<'k>(alloc: Global, kernel: &'k Kernel) -> Result<Vec<FoundLoop<
 fn leads_back(
     alloc: Global,
     arrows: &[Arrow],
-    events: usize,
+    numbers: &[usize],
     event: u32,
     emitted: &[u32],
 ) -> Result<bool, AllocError>
+    requires { NeverRises numbers.now arrows.now }
     ensures found { IfOk result (λ answer. answer ≡ true → (f : ℕ) × Contains emitted.now f × Path arrows.now f event) }
     ensures none { IfOk result (λ answer. answer ≡ false → (f : ℕ) → Contains emitted.now f → Path arrows.now f event → ⊥) }
 {
     for target in emitted {
-        if reaches(alloc, arrows, events, *target, event)? {
+        if reaches_by_number(alloc, arrows, numbers, *target, event)? {
             return Ok(true);
         }
     }
@@ -114,16 +116,17 @@ fn rule_where(broken: bool, rule: Rule) -> Option<Rule>
 fn paced_breaks(
     alloc: Global,
     arrows: &[Arrow],
-    events: usize,
+    numbers: &[usize],
     event: u32,
     found: &FoundLoop,
 ) -> Result<bool, AllocError>
+    requires { NeverRises numbers.now arrows.now }
     ensures found { IfOk result (λ answer. answer ≡ true → (f : ℕ) × Contains (block_emits found.now.body.now) f × Path arrows.now f event) }
     ensures none { IfOk result (λ answer. answer ≡ false → (f : ℕ) → Contains (block_emits found.now.body.now) f → Path arrows.now f event → ⊥) }
 {
     let mut emitted = Vec::new(alloc);
     emit_in(found.body, &mut emitted)?;
-    leads_back(alloc, arrows, events, event, &emitted)
+    leads_back(alloc, arrows, numbers, event, &emitted)
 }
 
 // The rule that a loop breaks.
@@ -131,9 +134,10 @@ fn broken_rule(
     alloc: Global,
     passing: &[bool],
     arrows: &[Arrow],
-    events: usize,
+    numbers: &[usize],
     found: &FoundLoop,
 ) -> Result<Option<Rule>, AllocError>
+    requires { NeverRises numbers.now arrows.now }
     ensures { IfOk result (λ rule. verdict.IsVerdict passing.now arrows.now (seen found.now) rule) }
 {
     if let Some(turns) = constant_bound(found.kind) {
@@ -141,7 +145,7 @@ fn broken_rule(
     }
     match paced(found.kind, found.body) {
         Some(event) => {
-            let cyclic = paced_breaks(alloc, arrows, events, event, found)?;
+            let cyclic = paced_breaks(alloc, arrows, numbers, event, found)?;
             Ok(rule_where(cyclic, Rule::B2))
         }
         None => {
@@ -193,20 +197,56 @@ fn earlier(first: Option<Broken>, pos: Pos, rule: Option<Rule>) -> Option<Broken
     }
 }
 
-/// The first of the rules that these loops break, where `passing` says which codes may go on at once, in a program with so many events.
+// Whether a place is behind that of a rule that is broken.
+fn is_behind(first: Option<Broken>, pos: Pos) -> bool
+    ensures { result ≡ verdict.is_behind first pos }
+{
+    match first {
+        None => false,
+        Some(broken) => {
+            if broken.pos.line == pos.line {
+                broken.pos.col < pos.col
+            } else {
+                broken.pos.line < pos.line
+            }
+        }
+    }
+}
+
+// The first of the rules that are broken, with one more loop. A loop behind the first one isn't asked.
+fn first_with(
+    alloc: Global,
+    passing: &[bool],
+    arrows: &[Arrow],
+    numbers: &[usize],
+    first: Option<Broken>,
+    found: &FoundLoop,
+) -> Result<Option<Broken>, AllocError>
+    requires { NeverRises numbers.now arrows.now }
+    ensures { IfOk result (λ more. (ls : List TrailLoop) → verdict.IsFirstOf passing.now arrows.now ls first → verdict.IsFirstOf passing.now arrows.now (ls ++ seen found.now ∷ []) more) }
+{
+    if is_behind(first, found.pos) {
+        return Ok(first);
+    }
+    let rule = broken_rule(alloc, passing, arrows, numbers, found)?;
+    Ok(earlier(first, found.pos, rule))
+}
+
+/// The first of the rules that these loops break, where `passing` says which codes may go on at once, and no arrow leads to an event with
+/// a greater number.
 pub fn first_broken(
     alloc: Global,
     passing: &[bool],
     arrows: &[Arrow],
-    events: usize,
+    numbers: &[usize],
     loops: &[FoundLoop],
 ) -> Result<Option<Broken>, AllocError>
+    requires { NeverRises numbers.now arrows.now }
     ensures { IfOk result (λ first. verdict.IsFirstOf passing.now arrows.now (map seen loops.now) first) }
 {
     let mut first = None;
     for found in loops {
-        let rule = broken_rule(alloc, passing, arrows, events, found)?;
-        first = earlier(first, found.pos, rule);
+        first = first_with(alloc, passing, arrows, numbers, first, found)?;
     }
     Ok(first)
 }

@@ -4,7 +4,7 @@ use Rattle.ceu_tree.proofs.TableLaws.{total_more}
 use Rattle.ceu_paths.specs.Cap.{cap}
 use Rattle.ceu_bound.specs.Waking as spec
 use Rattle.ceu_bound.proofs.WakeLaws.{round_step}
-use Rattle.ceu_bound.proofs.emissions.round.Goals as goal
+use Rattle.ceu_bound.proofs.settling.round.Goals as goal
 
 pub loop-wake-preserved : goal.loop-wake-preserved
 loop-wake-preserved c =

@@ -1,7 +1,7 @@
 use Rattle.std.proofs.Common.{◌≡◌}
 use Rattle.ceu_tree.specs.Costs.{emissions}
 use Rattle.ceu_bound.specs.Parts.{costs, SameTables}
-use Rattle.ceu_bound.proofs.emissions.settle.Given as goal
+use Rattle.ceu_bound.proofs.settling.settle_in_rounds.Given as goal
 
 abbrev pub invariant-loop-done : goal.invariant-loop-done
 invariant-loop-done l = (l.tables ≡ record l.initial.tables { events = l.tables.events }) ×
