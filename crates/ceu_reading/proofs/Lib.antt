@@ -7,3 +7,4 @@ pub mod Ends
 pub mod SpelledStatements
 pub mod Statements
 pub mod Programs
+pub mod Rows
