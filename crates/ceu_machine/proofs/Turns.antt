@@ -23,11 +23,11 @@ pub noted_on : {S : Type 0} (notes : S → Mark → S → Type 0) (ms ns : List 
 noted_on notes [] ns a b c h k = subst (λ x. Noted notes ns x c) h k
 noted_on notes (m ∷ ms) ns a b c h k = (h.0, h.1, noted_on notes ms ns h.0 b c h.2 k)
 
-stopped_early : {S : Type 0} (notes stops : S → Mark → S → Type 0) (ms ns : List Mark) (a b : S) → Stopped notes stops ms a b → Stopped notes stops (ms ++ ns) a b
+pub stopped_early : {S : Type 0} (notes stops : S → Mark → S → Type 0) (ms ns : List Mark) (a b : S) → Stopped notes stops ms a b → Stopped notes stops (ms ++ ns) a b
 stopped_early notes stops [] ns a b h = absurd h
 stopped_early notes stops (m ∷ ms) ns a b h = ⊎_elim (λ s. inl s) (λ s. inr (s.0, s.1, stopped_early notes stops ms ns s.0 b s.2)) h
 
-stopped_late : {S : Type 0} (notes stops : S → Mark → S → Type 0) (ms ns : List Mark) (a b c : S) → Noted notes ms a b → Stopped notes stops ns b c → Stopped notes stops (ms ++ ns) a c
+pub stopped_late : {S : Type 0} (notes stops : S → Mark → S → Type 0) (ms ns : List Mark) (a b c : S) → Noted notes ms a b → Stopped notes stops ns b c → Stopped notes stops (ms ++ ns) a c
 stopped_late notes stops [] ns a b c h k = subst (λ x. Stopped notes stops ns x c) h k
 stopped_late notes stops (m ∷ ms) ns a b c h k = inr (h.0, h.1, stopped_late notes stops ms ns h.0 b c h.2 k)
 
@@ -74,7 +74,7 @@ left_on image ms ds s s' bytes bytes' t e h on step =
 
 -- ---- the end of a turn
 
-marks_marked : (ms : List Mark) (s : turns.State) → IsAllowed s → marks_in (marked ms s) ≡ ms ++ marks_in s
+pub marks_marked : (ms : List Mark) (s : turns.State) → IsAllowed s → marks_in (marked ms s) ≡ ms ++ marks_in s
 marks_marked ms turns.Stuck h = absurd h
 marks_marked ms (turns.Trail r m) h = refl
 marks_marked ms (turns.Sweeping s m) h = refl
@@ -83,7 +83,7 @@ marks_marked ms (turns.Paused m) h = refl
 marks_marked ms (turns.Ended m) h = refl
 marks_marked ms (turns.Faulted f p m) h = refl
 
-over_allowed : (s : turns.State) → IsOver s → IsAllowed s
+pub over_allowed : (s : turns.State) → IsOver s → IsAllowed s
 over_allowed turns.Stuck h = absurd h
 over_allowed (turns.Trail r m) h = tt
 over_allowed (turns.Sweeping s m) h = tt

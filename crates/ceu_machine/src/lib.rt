@@ -23,5 +23,6 @@ mod words;
 
 pub use choosing::{Wanted, pick};
 pub use gates::{gate, set_gate};
+pub use noting::note;
 pub use turning::{Turned, turn};
 pub use words::{write_number, write_value};

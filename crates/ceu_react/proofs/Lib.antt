@@ -1,0 +1,12 @@
+pub mod Values
+pub mod Marks
+pub mod Reactions
+pub mod Sinks
+pub mod Levels
+pub mod RoundParts
+pub mod Runs
+pub mod Prepared
+pub mod CommandMarks
+pub mod Keeping
+pub mod Timers
+pub mod Advancing

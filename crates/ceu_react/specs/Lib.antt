@@ -1,0 +1,5 @@
+pub mod Marking
+pub mod Rounds
+pub mod Coming
+pub mod Changes
+pub mod Sessions

@@ -1,0 +1,14 @@
+//! The machine's reactions: an image that runs over its memory, command by command, exactly as ceu_isa defines it. It takes no memory.
+#![tactic(auto)]
+
+mod after;
+mod changes;
+mod clock;
+mod closing;
+mod commands;
+mod reacting;
+mod rounds;
+mod session;
+
+pub use after::{After, State};
+pub use session::{NewError, Session};
