@@ -1,12 +1,13 @@
 -- From the answers of the parts to that of the whole.
 use Rattle.std.proofs.Common.{◌≡◌, ◌∙◌, refl, sym, ap, subst, ℕ, ◌<◌, ◌≤◌, inl, inr, false, List, length, Option, Some, None, Result, Ok, Err}
-use Rattle.std.specs.Prelude.{IfSome, IfOk, OnOk, OnErr}
+use Rattle.std.specs.Prelude.{IfSome, IfOk, OnOk, OnErr, String}
 use Rattle.std.specs.Global.{Vec}
 use Rattle.ceu_base.specs.declared.kinds.Pos.{Pos}
 use Rattle.ceu_base.specs.declared.kinds.Rule.{Rule}
 use Rattle.ceu_bound.specs.PhaseB.{AreBounds}
 use Rattle.ceu_bound.specs.declared.bounds.Bounds.{Bounds}
 use Rattle.ceu_compile.specs.Programs.{IsProgram, IsBroken}
+use Rattle.ceu_compile.specs.Trees.{HasTree, IsTreeRefusal}
 use Rattle.ceu_compile.specs.declared.errors.CompileError.{CompileError}
 use Rattle.ceu_compile.specs.declared.errors.CompileError.TheVariants as broken
 use Rattle.ceu_driver.specs.Runs.{PlayCause}
@@ -21,18 +22,23 @@ use Rattle.ceu_io.specs.declared.shelves.Fetched.{Fetched}
 use Rattle.ceu_io.specs.declared.shelves.Fetched.TheVariants as fetched
 use Rattle.ceu_io.specs.declared.shelves.ShelfError.{ShelfError}
 use Rattle.ceu_io.specs.declared.shelves.ShelfError.TheVariants as failed
+use Rattle.ceu_lex.specs.declared.token.Token.{Token}
+use Rattle.ceu_print.specs.Statements.{program_text}
 use Rattle.ceu_run.specs.Forms.{first_unbuilt}
 use Rattle.ceu_run.specs.Lines.{memory_line}
 use Rattle.ceu_run.specs.Runs.{RunPrints}
 use Rattle.ceu_tree.specs.Costs.{bounds}
 use Rattle.ceu_tree.specs.Needs.{memory}
 use Rattle.ceu_tree.specs.declared.kernel.Kernel.{Kernel}
-use Rattle.ceu_top.specs.Answering.{status_of, played_status, Written, IsWritten, Ran, TextAnswer, IsTextAnswer, IsFileAnswer}
+use Rattle.ceu_tree.specs.declared.source.Tree.{Tree}
+use Rattle.ceu_top.specs.Answering.{status_of, played_status, Written, IsWritten, PrintAnswer, IsPrintAnswer, Ran, RunAnswer, TextAnswer, IsTextAnswer, IsFileAnswer}
 use Rattle.ceu_top.specs.Fetching.{Files, answer_of, HasFetched, IsFetch}
 use Rattle.ceu_top.specs.Lines.{refusal_line}
-use Rattle.ceu_top.specs.Outcomes.{first_line, RefusesToRun}
+use Rattle.ceu_top.specs.Outcomes.{first_line, Names, Prints}
 use Rattle.ceu_top.specs.declared.status.Status.{Status}
-use Rattle.ceu_top.specs.declared.status.Status.TheVariants.{Refused}
+use Rattle.ceu_top.specs.declared.status.Status.TheVariants.{Done, Refused, Write, Memory}
+use Rattle.ceu_top.specs.declared.words.Mode.{Mode}
+use Rattle.ceu_top.specs.declared.words.Mode.TheVariants.{Run, Check, Tidy}
 
 -- what was told before a call
 told_old : {A : Type 0} (x y : Option A) (P : A → Type 0) → WhereTold x y (λ old new. P old) → IfSome x P
@@ -62,23 +68,23 @@ pub fetch_is : {files : Option Files} {file : List ℕ} {s s' : ℕ} {result : R
     → IsFetch files file s s' result
 fetch_is {files = files} {file = file} {s = s} {s' = s'} files' r told within cause e = record { is = rw e (fetched_from files files' file s s' r told within cause) }
 
-pub file_unanswered : {status : Status} {file : List ℕ} {files : Option Files} {left held : Option (List ℕ)} {s s' i o : ℕ}
-    → IsFetch files file s s' (Err status) → IsFileAnswer status file files left left held held s s' i i o o
-file_unanswered h = record { is = inl (record { why = h.is; unwritten = refl; input = refl; out = refl }) }
+pub file_unanswered : {mode : Mode} {status : Status} {file : List ℕ} {files : Option Files} {left held : Option (List ℕ)} {s s' i o : ℕ}
+    → IsFetch files file s s' (Err status) → IsFileAnswer mode status file files left left held held s s' i i o o
+file_unanswered h = record { is = inl (record { why = h.is; unwritten = refl; unread = record { bytes = refl; input = refl }; out = refl }) }
 
-pub file_answered : {status : Status} {file bytes : List ℕ} {files : Option Files} {text : Vec ℕ} {left left' held now : Option (List ℕ)} {s s' i i' o o' : ℕ}
-    → IsFetch files file s s' (Ok text) → bytes ≡ text.items → IsTextAnswer status bytes left left' held now i i' o o' → IsFileAnswer status file files left left' held now s s' i i' o o'
-file_answered {status = status} {text = text} {left = left} {left' = left'} {held = held} {now = now} {i = i} {i' = i'} {o = o} {o' = o'} h e a = record {
+pub file_answered : {mode : Mode} {status : Status} {file bytes : List ℕ} {files : Option Files} {text : Vec ℕ} {left left' held now : Option (List ℕ)} {s s' i i' o o' : ℕ}
+    → IsFetch files file s s' (Ok text) → bytes ≡ text.items → IsTextAnswer mode status bytes left left' held now i i' o o' → IsFileAnswer mode status file files left left' held now s s' i i' o o'
+file_answered {mode = mode} {status = status} {text = text} {left = left} {left' = left'} {held = held} {now = now} {i = i} {i' = i'} {o = o} {o' = o'} h e a = record {
   is = inr (record {
     text = text.items;
     text_is = h.is.0;
     within = h.is.1;
     shelf = h.is.2;
-    answer = subst (λ l. TextAnswer status l left left' held now i i' o o') e a.is;
+    answer = subst (λ l. TextAnswer mode status l left left' held now i i' o o') e a.is;
   });
 }
 
--- ---- a refusal
+-- ---- what is known before the first byte
 
 written_from : (text : List ℕ) (whole : Status) (r : Result (Unit {0}) Failed) (held now : Option (List ℕ)) (o o' : ℕ)
     → OnOk r (Appends text held now) → OnErr r (AppendsProperFront text held now) → HasCause o o' r → Written text whole (status_of r whole) held now o o'
@@ -90,43 +96,82 @@ pub write_is : (text : List ℕ) (whole status : Status) (r : Result (Unit {0}) 
 write_is text whole status r held now o o' appends front cause e =
     record { is = subst (λ s. Written text whole s held now o o') (sym e) (written_from text whole r held now o o' appends front cause) }
 
-refused_from : (text : List ℕ) (rule : Rule) (place : Pos) (status : Status) (left held now : Option (List ℕ)) (i o o' : ℕ)
-    → RefusesToRun text rule place → Written (refusal_line rule place) Refused status held now o o' → TextAnswer status text left left held now i i o o'
-refused_from text rule place status left held now i o o' refuses (inl w) =
-    subst (λ s. TextAnswer s text left left held now i i o o') (sym w.0) (rule, place, refuses, w.1, refl, w.2)
-refused_from text rule place status left held now i o o' refuses (inr w) =
-    subst (λ s. TextAnswer s text left left held now i i o o') (sym w.0) (inr (rule, place, refuses, w.1, refl, w.2, w.3))
+refused_from : (mode : Mode) (text line : List ℕ) (status : Status) (held now : Option (List ℕ)) (o o' : ℕ)
+    → ((script : List ℕ) → Prints mode Refused text script line) → Written line Refused status held now o o' → PrintAnswer mode status text held now o o'
+refused_from mode text line status held now o o' defined (inl w) =
+    subst (λ s. PrintAnswer mode s text held now o o') (sym w.0) (record { line = line; defined = defined; written = w.1; out = w.2 })
+refused_from mode text line status held now o o' defined (inr w) =
+    subst (λ s. PrintAnswer mode s text held now o o') (sym w.0) (record { whole = Refused; line = line; defined = defined; front = w.1; rises = w.2; rose = w.3 })
 
-pub refused_with : (text : List ℕ) (rule : Rule) (place : Pos) (status : Status) (left held now : Option (List ℕ)) (i o o' : ℕ)
-    → RefusesToRun text rule place → IsWritten (refusal_line rule place) Refused status held now o o' → IsTextAnswer status text left left held now i i o o'
-refused_with text rule place status left held now i o o' refuses w = record { is = refused_from text rule place status left held now i o o' refuses w.is }
+done_from : (mode : Mode) (text line : List ℕ) (status : Status) (held now : Option (List ℕ)) (o o' : ℕ)
+    → ((script : List ℕ) → Prints mode Done text script line) → Written line Done status held now o o' → PrintAnswer mode status text held now o o'
+done_from mode text line status held now o o' defined (inl w) =
+    subst (λ s. PrintAnswer mode s text held now o o') (sym w.0) (record { line = line; defined = defined; written = w.1; out = w.2 })
+done_from mode text line status held now o o' defined (inr w) =
+    subst (λ s. PrintAnswer mode s text held now o o') (sym w.0) (record { whole = Done; line = line; defined = defined; front = w.1; rises = w.2; rose = w.3 })
 
-pub broken_text : (text : List ℕ) (e : CompileError) (rule : Rule) (place : Pos) → IsBroken text e → e ≡ broken.Refused rule place → RefusesToRun text rule place
-broken_text text e rule place h is = inl (subst (λ x. IsBroken text x) is h)
+refusal_printed : (mode : Mode) (text : List ℕ) (rule : Rule) (place : Pos) → Names mode text rule place → (script : List ℕ) → Prints mode Refused text script (refusal_line rule place)
+refusal_printed Run text rule place named script = (rule, place, named, refl)
+refusal_printed Check text rule place named script = (rule, place, named, refl)
+refusal_printed Tidy text rule place named script = (rule, place, named, refl)
 
--- ---- a run
+pub refused_with : (mode : Mode) (text : List ℕ) (rule : Rule) (place : Pos) (status : Status) (held now : Option (List ℕ)) (o o' : ℕ)
+    → Names mode text rule place → IsWritten (refusal_line rule place) Refused status held now o o' → IsPrintAnswer mode status text held now o o'
+refused_with mode text rule place status held now o o' named w =
+    record { is = refused_from mode text (refusal_line rule place) status held now o o' (refusal_printed mode text rule place named) w.is }
+
+pub memory_wanted : {mode : Mode} {text : List ℕ} {held now : Option (List ℕ)} {o o' : ℕ} → now ≡ held → o' ≡ o → IsPrintAnswer mode Memory text held now o o'
+memory_wanted same quiet = record { is = (same, quiet) }
+
+pub broken_text : (text : List ℕ) (e : CompileError) (rule : Rule) (place : Pos) → IsBroken text e → e ≡ broken.Refused rule place → Names Check text rule place
+broken_text text e rule place h is = subst (λ x. IsBroken text x) is h
+
+pub broken_tree : (text : List ℕ) (e : CompileError) (rule : Rule) (place : Pos) → IsTreeRefusal text e → e ≡ broken.Refused rule place → Names Tidy text rule place
+broken_tree text e rule place h is = subst (λ x. IsTreeRefusal text x) is h
 
 lines_same : (m m' t t' l l' : ℕ) → m ≡ m' → t ≡ t' → l ≡ l' → memory_line m t l ≡ memory_line m' t' l'
 lines_same m m' t t' l l' e f g = ap (λ k. memory_line k t l) e ∙ ap (λ k. memory_line m' k l) f ∙ ap (λ k. memory_line m' t' k) g
 
-text_ran : (answer : Played) (text : List ℕ) (left left' held now : Option (List ℕ)) (i i' o o' : ℕ) → Ran answer text left left' held now i i' o o'
-    → TextAnswer (played_status answer) text left left' held now i i' o o'
+pub memory_shown : (text : List ℕ) (K : Kernel) (m : ℕ) (b : Bounds) (status : Status) (held now : Option (List ℕ)) (o o' : ℕ)
+    → IsProgram text K → m ≡ memory false K → AreBounds K b → IsWritten (memory_line m b.turns b.levels) Done status held now o o' → IsPrintAnswer Check status text held now o o'
+memory_shown text K m b status held now o o' program sized bounded w =
+    record { is = done_from Check text (memory_line m b.turns b.levels) status held now o o' (λ script. (K, program, lines_same m (memory false K) b.turns (bounds K).turns b.levels (bounds K).opens sized bounded.turns bounded.levels)) w.is }
+
+pub form_shown : (text form bytes : List ℕ) (tokens : List Token) (tree : Tree) (status : Status) (held now : Option (List ℕ)) (o o' : ℕ)
+    → HasTree text tokens tree → form ≡ program_text tree → bytes ≡ form → IsWritten bytes Done status held now o o' → IsPrintAnswer Tidy status text held now o o'
+form_shown text form bytes tokens tree status held now o o' has is same w =
+    record { is = done_from Tidy text bytes status held now o o' (λ script. (tokens, tree, has, same ∙ is)) w.is }
+
+-- the script isn't read
+pub text_printed : {mode : Mode} {status : Status} {text : List ℕ} {left held now : Option (List ℕ)} {i o o' : ℕ}
+    → IsPrintAnswer mode status text held now o o' → IsTextAnswer mode status text left left held now i i o o'
+text_printed a = record { is = inr (a.is, record { bytes = refl; input = refl }) }
+
+pub text_unmet : {mode : Mode} {text : List ℕ} {left left' held now : Option (List ℕ)} {i i' o o' : ℕ}
+    → left' ≡ left → now ≡ held → i' ≡ i → o' ≡ o → IsTextAnswer mode Memory text left left' held now i i' o o'
+text_unmet bytes same input out = record { is = inr ((same, out), record { bytes = bytes; input = input }) }
+
+-- ---- a run
+
+text_ran : (answer : Played) (text : List ℕ) (left left' held now : Option (List ℕ)) (i i' o o' : ℕ) → Ran Run answer text left left' held now i i' o o'
+    → RunAnswer Run (played_status answer) text left left' held now i i' o o'
 text_ran played.Done text left left' held now i i' o o' ran = ran
 text_ran played.Fault text left left' held now i i' o o' ran = ran
 text_ran played.Script text left left' held now i i' o o' ran = ran
 text_ran played.Read text left left' held now i i' o o' ran = ran
-text_ran played.Write text left left' held now i i' o o' ran = inl ran
+text_ran played.Write text left left' held now i i' o o' ran = ran
 
 pub run_is : (answer : Played) (status : Status) (text : List ℕ) (K : Kernel) (m : ℕ) (b : Bounds) (left left' held now : Option (List ℕ)) (i i' o o' : ℕ)
     → IsProgram text K → first_unbuilt K ≡ None → m ≡ memory false K → AreBounds K b
     → WhereTold left left' (λ old new. RunPrints answer (memory_line m b.turns b.levels) K old (length new) held now)
-    → PlayCause answer i i' o o' → status ≡ played_status answer → IsTextAnswer status text left left' held now i i' o o'
+    → PlayCause answer i i' o o' → status ≡ played_status answer → IsTextAnswer Run status text left left' held now i i' o o'
 run_is answer status text K m b left left' held now i i' o o' program built sized bounded told cause e = record {
-  is = subst (λ s. TextAnswer s text left left' held now i i' o o') (sym e) (text_ran answer text left left' held now i i' o o' (record {
+  is = inl (subst (λ s. RunAnswer Run s text left left' held now i i' o o') (sym e) (text_ran answer text left left' held now i i' o o' (record {
+    in_run = refl;
     kernel = K;
     runnable = (program, built);
     told = subst (λ line. WhereTold left left' (λ old new. RunPrints answer line K old (length new) held now))
         (lines_same m (memory false K) b.turns (bounds K).turns b.levels (bounds K).opens sized bounded.turns bounded.levels) told;
     cause = cause;
-  }));
+  })));
 }

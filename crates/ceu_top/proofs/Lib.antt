@@ -1,2 +1,4 @@
 pub mod Answering
+pub mod Statuses
 pub mod Clauses
+pub mod Lining

@@ -1,25 +1,34 @@
 -- What a call of `ceu` comes to: its status, what it writes, and why.
-use Rattle.std.specs.Prelude.{◌≡◌, ◌≢◌, ◌==◌, ◌⊎◌, ℕ, ◌<◌, ◌≤◌, false, List, [], length, Option, Some, None, IfSome, String}
+use Rattle.std.specs.Prelude.{◌≡◌, ◌≢◌, ◌==◌, ◌⊎◌, ℕ, ◌<◌, ◌≤◌, ◌++◌, false, List, [], length, Option, Some, None, IfSome, MatchOption, String}
 use Rattle.std.specs.Bool.{MatchBool}
 use Rattle.ceu_base.specs.declared.kinds.Pos.{Pos}
 use Rattle.ceu_base.specs.declared.kinds.Rule.{Rule}
 use Rattle.ceu_base.specs.declared.kinds.Rule.TheVariants.{B0}
 use Rattle.ceu_compile.specs.Programs.{IsProgram, Breaks}
+use Rattle.ceu_compile.specs.Trees.{HasTree, HasNoTree}
+use Rattle.ceu_driver.specs.Printing.{run_text}
+use Rattle.ceu_driver.specs.Runs.{TakesLittle}
 use Rattle.ceu_driver.specs.declared.answers.Played.{Played}
 use Rattle.ceu_driver.specs.declared.answers.Played.TheVariants as played
 use Rattle.ceu_io.specs.Bytes.{Appends, AppendsProperFront}
 use Rattle.ceu_io.specs.Counts.{Quiet}
+use Rattle.ceu_io.specs.Told.{WhereTold}
+use Rattle.ceu_lex.specs.declared.token.Token.{Token}
+use Rattle.ceu_print.specs.Statements.{program_text}
 use Rattle.ceu_run.specs.Forms.{first_unbuilt}
 use Rattle.ceu_run.specs.Lines.{memory_line}
-use Rattle.ceu_run.specs.Runs.{IsRun, IsCut, IsUpTo}
+use Rattle.ceu_run.specs.Runs.{IsRun, IsCut, IsUpTo, lines_of}
 use Rattle.ceu_tree.specs.Costs.{bounds}
 use Rattle.ceu_tree.specs.Needs.{memory}
 use Rattle.ceu_tree.specs.declared.kernel.Kernel.{Kernel}
-use Rattle.ceu_top.specs.Command.{file_of}
+use Rattle.ceu_tree.specs.declared.source.Tree.{Tree}
+use Rattle.ceu_top.specs.Command.{command_of}
 use Rattle.ceu_top.specs.Fetching.{Files}
 use Rattle.ceu_top.specs.Lines.{refusal_line}
 use Rattle.ceu_top.specs.declared.status.Status.{Status}
 use Rattle.ceu_top.specs.declared.status.Status.TheVariants.{Done, Refused, Words, Script, Fault, Read, Write, Memory, Absent, TooLong}
+use Rattle.ceu_top.specs.declared.words.Mode.{Mode}
+use Rattle.ceu_top.specs.declared.words.Mode.TheVariants.{Run, Check, Tidy}
 
 -- ---- what is printed
 
@@ -35,38 +44,54 @@ IsRunnable text K = IsProgram text K × (first_unbuilt K ≡ None)
 abbrev pub RefusesToRun : List ℕ → Rule → Pos → Type 0
 RefusesToRun text rule place = Breaks text rule place ⊎ ((K : Kernel) × IsProgram text K × (rule ≡ B0) × (first_unbuilt K ≡ Some place))
 
+-- The rule and the place that a mode names: `run` and `check` ask all rules, `tidy` those on tokens and on grammar alone.
+abbrev pub Names : Mode → List ℕ → Rule → Pos → Type 0
+Names Run text rule place = RefusesToRun text rule place
+Names Check text rule place = Breaks text rule place
+Names Tidy text rule place = HasNoTree text rule place
+
 -- The run of a text on a script, by the reference semantics.
 abbrev pub Runs : Played → (text script written : List ℕ) → Type 0
 Runs answer text script written = (K : Kernel) × IsRunnable text K × IsRun answer (first_line K) K script written
 
+-- The memory line of a text that breaks no rule.
+abbrev pub Checks : (text written : List ℕ) → Type 0
+Checks text written = (K : Kernel) × IsProgram text K × (written ≡ first_line K)
+
+-- The printed form of a text that breaks no rule on tokens and on grammar.
+abbrev pub Tidies : (text written : List ℕ) → Type 0
+Tidies text written = (tokens : List Token) × (tree : Tree) × HasTree text tokens tree × (written ≡ program_text tree)
+
 -- The line of a refusal.
-abbrev pub Refuses : (text written : List ℕ) → Type 0
-Refuses text written = (rule : Rule) × (place : Pos) × RefusesToRun text rule place × (written ≡ refusal_line rule place)
+abbrev pub Refuses : Mode → (text written : List ℕ) → Type 0
+Refuses mode text written = (rule : Rule) × (place : Pos) × Names mode text rule place × (written ≡ refusal_line rule place)
 
--- what is printed with a status
-abbrev pub Prints : Status → (text script written : List ℕ) → Type 0
-Prints Done text script written = Runs played.Done text script written
-Prints Script text script written = Runs played.Script text script written
-Prints Fault text script written = Runs played.Fault text script written
-Prints Refused text script written = Refuses text written
-Prints _ text script written = ⊥
+-- what is printed in a mode with a status; `run` alone looks at the script
+abbrev pub Prints : Mode → Status → (text script written : List ℕ) → Type 0
+Prints Run Done text script written = Runs played.Done text script written
+Prints Run Script text script written = Runs played.Script text script written
+Prints Run Fault text script written = Runs played.Fault text script written
+Prints Check Done text script written = Checks text written
+Prints Tidy Done text script written = Tidies text written
+Prints mode Refused text script written = Refuses mode text written
+Prints _ _ text script written = ⊥
 
--- The words name a file, whose text has at most 1,048,576 bytes and is this one.
-abbrev pub IsText : {A : Type 0} → List (String A) → Files → List ℕ → Type 0
-IsText words files text = (file : List ℕ) × (file_of words ≡ Some file) × (files file ≡ Some text) × (length text ≤ 1048576)
+-- The words ask in this mode for a file, whose text has at most 1,048,576 bytes and is this one.
+abbrev pub IsText : {A : Type 0} → List (String A) → Files → Mode → List ℕ → Type 0
+IsText words files mode text = (file : List ℕ) × (command_of words ≡ Some (mode, file)) × (files file ≡ Some text) × (length text ≤ 1048576)
 
 abbrev pub IsAbsent : {A : Type 0} → List (String A) → Files → Type 0
-IsAbsent words files = (file : List ℕ) × (file_of words ≡ Some file) × (files file ≡ None)
+IsAbsent words files = (mode : Mode) × (file : List ℕ) × (command_of words ≡ Some (mode, file)) × (files file ≡ None)
 
 abbrev pub IsTooLong : {A : Type 0} → List (String A) → Files → Type 0
-IsTooLong words files = (file : List ℕ) × (text : List ℕ) × (file_of words ≡ Some file) × (files file ≡ Some text) × (1048576 < length text)
+IsTooLong words files = (mode : Mode) × (file : List ℕ) × (text : List ℕ) × (command_of words ≡ Some (mode, file)) × (files file ≡ Some text) × (1048576 < length text)
 
 -- What is defined for words, files and a script: the status and what is written.
 abbrev pub Outcome : {A : Type 0} → Status → List (String A) → Files → (script written : List ℕ) → Type 0
-Outcome Words words files script written = (file_of words ≡ None) × (written ≡ [])
+Outcome Words words files script written = (command_of words ≡ None) × (written ≡ [])
 Outcome Absent words files script written = IsAbsent words files × (written ≡ [])
 Outcome TooLong words files script written = IsTooLong words files × (written ≡ [])
-Outcome status words files script written = (text : List ℕ) × IsText words files text × Prints status text script written
+Outcome status words files script written = (mode : Mode) × (text : List ℕ) × IsText words files mode text × Prints mode status text script written
 
 -- ---- clauses of `ceu`; what is said of contents holds where the objects tell them
 
@@ -93,19 +118,57 @@ Headline status words files left held now s s' i i' o o' = IfSome files (λ fs. 
 
 -- What is defined for this status was printed whole.
 abbrev pub IsWhole : {A : Type 0} → Status → List (String A) → Option Files → Option (List ℕ) → (held now : Option (List ℕ)) → Type 0
-IsWhole status words files left held now =
-    IfSome files (λ fs. IfSome left (λ script. (text : List ℕ) × (written : List ℕ) × IsText words fs text × Prints status text script written × Appends written held now))
+IsWhole status words files left held now = IfSome files (λ fs. IfSome left (λ script.
+    (mode : Mode) × (text : List ℕ) × (written : List ℕ) × IsText words fs mode text × Prints mode status text script written × Appends written held now))
 
--- A proper prefix of the run, or of the line of a refusal, was printed.
+-- A proper prefix of the text of a run, with each bound on the steps of a reaction that is large enough.
+abbrev pub BeginsRun : Kernel → (script : List ℕ) → (held now : Option (List ℕ)) → Type 0
+BeginsRun K script held now = (bound : ℕ) × ((n : ℕ) → bound ≤ n → AppendsProperFront (first_line K ++ run_text false K.outputs K n (lines_of K script)) held now)
+
+-- A proper prefix of what is defined for the text was printed.
+abbrev pub IsFront : Mode → (text script : List ℕ) → (held now : Option (List ℕ)) → Type 0
+IsFront mode text script held now =
+    ((whole : Status) × (written : List ℕ) × Prints mode whole text script written × AppendsProperFront written held now)
+    ⊎ ((K : Kernel) × (mode ≡ Run) × IsRunnable text K × BeginsRun K script held now)
+
 abbrev pub IsCutShort : {A : Type 0} → List (String A) → Option Files → Option (List ℕ) → (held now : Option (List ℕ)) → Type 0
-IsCutShort words files left held now = IfSome files (λ fs. IfSome left (λ script. (text : List ℕ) × IsText words fs text
-    × (((K : Kernel) × (more : ℕ) × IsRunnable text K × IsCut (first_line K) K script more held now)
-    ⊎ ((rule : Rule) × (place : Pos) × RefusesToRun text rule place × AppendsProperFront (refusal_line rule place) held now))))
+IsCutShort words files left held now = IfSome files (λ fs. IfSome left (λ script.
+    (mode : Mode) × (text : List ℕ) × IsText words fs mode text × IsFront mode text script held now))
 
--- Nothing was printed, or the run up to some whole lines of the script.
-abbrev pub IsStopped : {A : Type 0} → List (String A) → Option Files → Option (List ℕ) → (held now : Option (List ℕ)) → Type 0
-IsStopped words files left held now = (now ≡ held) ⊎ IfSome files (λ fs. IfSome left (λ script.
-    (text : List ℕ) × (K : Kernel) × (more : ℕ) × (written : List ℕ) × IsText words fs text × IsRunnable text K × IsUpTo (first_line K) K script more written × Appends written held now))
+-- The run was printed up to some whole lines of the script, without a status line, and at most 4,096 bytes were taken from the start of the last
+-- of these lines.
+abbrev pub IsRunUpTo : {A : Type 0} → List (String A) → Files → (script rest : List ℕ) → (held now : Option (List ℕ)) → Type 0
+IsRunUpTo words files script rest held now = (text : List ℕ) × (K : Kernel) × (written : List ℕ)
+    × IsText words files Run text × IsRunnable text K × IsUpTo (first_line K) K script (length rest) written × Appends written held now
+
+-- Nothing was printed, or a run up to some whole lines.
+abbrev pub IsStopped : {A : Type 0} → List (String A) → Option Files → (left left' held now : Option (List ℕ)) → Type 0
+IsStopped words files left left' held now =
+    (now ≡ held) ⊎ IfSome files (λ fs. WhereTold left left' (λ script rest. IsRunUpTo words fs script rest held now))
+
+-- What a run takes of the script: at most 4,096 bytes from the start of a line, where the program waits after the lines before it. After `Write`
+-- the lines of boot and of the commands before it are written instead.
+abbrev pub TakesFor : Status → Kernel → (script rest : List ℕ) → (held now : Option (List ℕ)) → Type 0
+TakesFor Done K script rest held now = TakesLittle K (lines_of K script) script (length rest)
+TakesFor Script K script rest held now = TakesLittle K (lines_of K script) script (length rest)
+TakesFor Fault K script rest held now = TakesLittle K (lines_of K script) script (length rest)
+TakesFor Read K script rest held now = TakesLittle K (lines_of K script) script (length rest)
+TakesFor Write K script rest held now = IsCut (first_line K) K script (length rest) held now
+TakesFor _ K script rest held now = ⊥
+
+-- Nothing of the script was taken, or a run took so much.
+abbrev pub IsTaken : {A : Type 0} → Status → List (String A) → Option Files → (left left' held now : Option (List ℕ)) → Type 0
+IsTaken status words files left left' held now = WhereTold left left' (λ script rest. (rest ≡ script)
+    ⊎ IfSome files (λ fs. (text : List ℕ) × (K : Kernel) × IsText words fs Run text × IsRunnable text K × TakesFor status K script rest held now))
+
+-- In every other mode than `run`.
+abbrev pub UnlessRun : Mode → Type 0 → Type 0
+UnlessRun Run P = Unit {0}
+UnlessRun _ P = P
+
+-- P holds where the words are no command, or ask for another mode than `run`.
+abbrev pub UnlessRunning : {A : Type 0} → List (String A) → Type 0 → Type 0
+UnlessRunning words P = MatchOption (command_of words) P (λ command. UnlessRun command.0 P)
 
 -- With these answers nothing is written.
 abbrev pub IsUnwritten : Status → Type 0 → Type 0

@@ -6,13 +6,32 @@ use std::test::Fail;
 
 const ECHO: &[u8] = b"input int A;\noutput int O;\nvar int x = await A;\nemit O(x);\nescape x;\n";
 
-// A call on the file `p.ceu`, and what it writes. `fails` are the calls of the shelf, the input and the sink that fail, from 1.
+// Waits for a third `A` in the end.
+const TWICE: &[u8] =
+    b"input int A; output int O;\nvar int x = await A; emit O(x);\nx = await A; emit O(x);\nawait A;\n";
+
+// How the objects behave: the most bytes that the script and the output move in a call, the bytes that the output has room for, and the
+// calls of the shelf, the script and the output that fail, from 1.
+#[derive(Clone, Copy)]
+struct Outside {
+    pieces: [usize; 2],
+    room: usize,
+    fails: [u32; 3],
+}
+
+const AMPLE: Outside = Outside {
+    pieces: [4096, 4096],
+    room: 4096,
+    fails: [0, 0, 0],
+};
+
+// A call on the file `p.ceu`, and what it writes.
 fn call(
     alloc: Global,
     words: &[&str],
     text: &[u8],
     script: &[u8],
-    fails: [u32; 3],
+    outside: &Outside,
 ) -> Result<(Status, Vec<u8>), Fail> {
     let mut names = Vec::new(alloc);
     for word in words {
@@ -20,21 +39,25 @@ fn call(
     }
     let mut shelf = MemShelf::new(alloc);
     shelf.put("p.ceu", text)?;
-    shelf.fail_on(fails[0])?;
+    shelf.fail_on(outside.fails[0])?;
     let mut input = MemSource::new(
         Vec::from_slice(alloc, script)?,
-        3,
-        Vec::from_slice(alloc, &[fails[1]])?,
+        outside.pieces[0].max(1),
+        Vec::from_slice(alloc, &[outside.fails[1]])?,
     );
-    let mut out = MemSink::new(alloc, 1024, 1024, Vec::from_slice(alloc, &[fails[2]])?)?;
+    let mut out = MemSink::new(
+        alloc,
+        outside.room,
+        outside.pieces[1].max(1),
+        Vec::from_slice(alloc, &[outside.fails[2]])?,
+    )?;
     let status = ceu(alloc, names.as_slice(), &mut shelf, &mut input, &mut out);
     Ok((status, Vec::from_slice(alloc, out.bytes())?))
 }
 
 #[test]
-fn programs_print_their_run(rt: HostRuntime) -> Result<(), Fail> {
-    let echoed = b"memory 47 turns 1 levels 0\nO 5\n== escape 5\n";
-    let rows: [(&[u8], &[u8], Status, &[u8]); 10] = [
+fn runs_in_any_pieces(rt: HostRuntime) -> Result<(), Fail> {
+    let rows: [(&[u8], &[u8], Status, &[u8]); 8] = [
         (
             b"escape 1;",
             b"",
@@ -47,8 +70,18 @@ fn programs_print_their_run(rt: HostRuntime) -> Result<(), Fail> {
             Status::Done,
             b"memory 43 turns 1 levels 0\n== escape 0\n",
         ),
-        (ECHO, b"A 5", Status::Done, echoed),
-        (ECHO, b"A 005\nA 6\n", Status::Done, echoed),
+        (
+            ECHO,
+            b"A 5",
+            Status::Done,
+            b"memory 47 turns 1 levels 0\nO 5\n== escape 5\n",
+        ),
+        (
+            ECHO,
+            b"A 005\nA 6\n",
+            Status::Done,
+            b"memory 47 turns 1 levels 0\nO 5\n== escape 5\n",
+        ),
         (
             ECHO,
             b"",
@@ -56,23 +89,111 @@ fn programs_print_their_run(rt: HostRuntime) -> Result<(), Fail> {
             b"memory 47 turns 1 levels 0\n== waiting\n",
         ),
         (
-            ECHO,
-            b"B 5",
+            TWICE,
+            b"A 1\nA 2\nB 3\nA 4\n",
             Status::Script,
-            b"memory 47 turns 1 levels 0\n== script 1 unknown\n",
+            b"memory 47 turns 1 levels 0\nO 1\nO 2\n== script 3 unknown\n",
         ),
-        (b"par", b"", Status::Refused, b"refused G1 1:4\n"),
         (
-            b"escape x; var int x;",
-            b"",
-            Status::Refused,
-            b"refused N1 1:8\n",
+            TWICE,
+            b"A 1 2",
+            Status::Script,
+            b"memory 47 turns 1 levels 0\n== script 1 form\n",
         ),
         (b"await FOREVER;", b"", Status::Refused, b"refused B0 1:1\n"),
-        (b"escape y; @", b"", Status::Refused, b"refused L1 1:11\n"),
     ];
     for (text, script, status, printed) in &rows {
-        let (answer, written) = call(rt.alloc(), &["ceu", "run", "p.ceu"], text, script, [0; 3])?;
+        for piece in [1, 2, 7, 4096] {
+            let outside = Outside {
+                pieces: [piece, 4097 - piece],
+                ..AMPLE
+            };
+            let (answer, written) = call(
+                rt.alloc(),
+                &["ceu", "run", "p.ceu"],
+                text,
+                script,
+                &outside,
+            )?;
+            assert_eq!(rt; answer, *status);
+            assert_eq!(rt; written.as_slice(), *printed);
+        }
+    }
+    Ok(())
+}
+
+#[test]
+fn texts_are_checked_and_tidied(rt: HostRuntime) -> Result<(), Fail> {
+    let rows: [(&str, &[u8], Status, &[u8]); 16] = [
+        ("check", ECHO, Status::Done, b"memory 47 turns 1 levels 0\n"),
+        (
+            "check",
+            b"await FOREVER;",
+            Status::Done,
+            b"memory 43 turns 1 levels 0\n",
+        ),
+        (
+            "check",
+            b"do var int a = 1; end do var s64 b = 2; end escape 0;",
+            Status::Done,
+            b"memory 51 turns 1 levels 0\n",
+        ),
+        (
+            "check",
+            b"escape y; @",
+            Status::Refused,
+            b"refused L1 1:11\n",
+        ),
+        (
+            "check",
+            b"par do nothing; end",
+            Status::Refused,
+            b"refused G1 1:17\n",
+        ),
+        ("check", b"do", Status::Refused, b"refused G1 1:3\n"),
+        ("check", b"escape y;", Status::Refused, b"refused N1 1:8\n"),
+        (
+            "check",
+            b"var u8 x = 300;",
+            Status::Refused,
+            b"refused T7 1:12\n",
+        ),
+        (
+            "check",
+            b"var int n; var u8 x = n;",
+            Status::Refused,
+            b"refused T2 1:23\n",
+        ),
+        (
+            "check",
+            b"event none e;\nloop do\n  par/or do await e; with emit e; await FOREVER; end\nend\n",
+            Status::Refused,
+            b"refused B1 2:1\n",
+        ),
+        ("run", b"escape y; @", Status::Refused, b"refused L1 1:11\n"),
+        ("tidy", b"escape   0x1 ;", Status::Done, b"escape 1;\n"),
+        ("tidy", b"await 90s;", Status::Done, b"await 1min30s;\n"),
+        (
+            "tidy",
+            b"var&?Tick a=spawn Tick( 1 )in p;",
+            Status::Done,
+            b"var&? Tick a = spawn Tick(1) in p;\n",
+        ),
+        ("tidy", b"par", Status::Refused, b"refused G1 1:4\n"),
+        (
+            "tidy",
+            b"do end escape y;",
+            Status::Done,
+            b"do\nend\nescape y;\n",
+        ),
+    ];
+    for (mode, text, status, printed) in &rows {
+        // The script fails at its first call, which isn't made.
+        let outside = Outside {
+            fails: [0, 1, 0],
+            ..AMPLE
+        };
+        let (answer, written) = call(rt.alloc(), &["ceu", mode, "p.ceu"], text, b"A 5", &outside)?;
         assert_eq!(rt; answer, *status);
         assert_eq!(rt; written.as_slice(), *printed);
     }
@@ -81,14 +202,112 @@ fn programs_print_their_run(rt: HostRuntime) -> Result<(), Fail> {
 
 #[test]
 fn each_object_may_fail(rt: HostRuntime) -> Result<(), Fail> {
-    let rows: [([u32; 3], Status, &[u8]); 4] = [
-        ([1, 0, 0], Status::Read, b""),
-        ([0, 2, 0], Status::Read, b"memory 47 turns 1 levels 0\n"),
-        ([0, 0, 1], Status::Write, b""),
-        ([0, 0, 2], Status::Write, b"memory 47 turns 1 levels 0\n"),
+    let rows: [(&str, Outside, Status, &[u8]); 11] = [
+        (
+            "run",
+            Outside {
+                fails: [1, 0, 0],
+                ..AMPLE
+            },
+            Status::Read,
+            b"",
+        ),
+        (
+            "tidy",
+            Outside {
+                fails: [1, 0, 0],
+                ..AMPLE
+            },
+            Status::Read,
+            b"",
+        ),
+        (
+            "run",
+            Outside {
+                fails: [0, 0, 1],
+                ..AMPLE
+            },
+            Status::Write,
+            b"",
+        ),
+        (
+            "run",
+            Outside {
+                fails: [0, 0, 2],
+                ..AMPLE
+            },
+            Status::Write,
+            b"memory 47 turns 1 levels 0\n",
+        ),
+        (
+            "run",
+            Outside {
+                fails: [0, 0, 4],
+                ..AMPLE
+            },
+            Status::Write,
+            b"memory 47 turns 1 levels 0\nO 1\nO 2\n",
+        ),
+        (
+            "run",
+            Outside {
+                pieces: [4096, 3],
+                fails: [0, 0, 9],
+                ..AMPLE
+            },
+            Status::Write,
+            b"memory 47 turns 1 levels",
+        ),
+        (
+            "run",
+            Outside { room: 27, ..AMPLE },
+            Status::Write,
+            b"memory 47 turns 1 levels 0\n",
+        ),
+        (
+            "check",
+            Outside { room: 26, ..AMPLE },
+            Status::Write,
+            b"memory 47 turns 1 levels 0",
+        ),
+        (
+            "tidy",
+            Outside {
+                fails: [0, 0, 2],
+                ..AMPLE
+            },
+            Status::Write,
+            b"input int A;\n",
+        ),
+        (
+            "run",
+            Outside {
+                pieces: [1, 4096],
+                fails: [0, 5, 0],
+                ..AMPLE
+            },
+            Status::Read,
+            b"memory 47 turns 1 levels 0\nO 1\n",
+        ),
+        (
+            "run",
+            Outside {
+                pieces: [1, 4096],
+                fails: [0, 1, 0],
+                ..AMPLE
+            },
+            Status::Read,
+            b"memory 47 turns 1 levels 0\n",
+        ),
     ];
-    for (fails, status, printed) in &rows {
-        let (answer, written) = call(rt.alloc(), &["ceu", "run", "p.ceu"], ECHO, b"A 5", *fails)?;
+    for (mode, outside, status, printed) in &rows {
+        let (answer, written) = call(
+            rt.alloc(),
+            &["ceu", mode, "p.ceu"],
+            TWICE,
+            b"A 1\nA 2\n",
+            outside,
+        )?;
         assert_eq!(rt; answer, *status);
         assert_eq!(rt; written.as_slice(), *printed);
     }
@@ -97,16 +316,17 @@ fn each_object_may_fail(rt: HostRuntime) -> Result<(), Fail> {
 
 #[test]
 fn words_and_files(rt: HostRuntime) -> Result<(), Fail> {
-    let rows: [(&[&str], Status); 5] = [
+    let rows: [(&[&str], Status); 6] = [
         (&["ceu", "fly", "p.ceu"], Status::Words),
         (&["ceu", "run"], Status::Words),
-        (&["ceu", "run", "p.ceu", "q.ceu"], Status::Words),
+        (&["ceu", "check", "p.ceu", "q.ceu"], Status::Words),
         (&["ceu", "run", "q.ceu"], Status::Absent),
-        (&["ceu", "run", "p.ceu"], Status::TooLong),
+        (&["ceu", "tidy", "q.ceu"], Status::Absent),
+        (&["ceu", "check", "p.ceu"], Status::TooLong),
     ];
     let long = vec![in rt.alloc(); b' '; 1_048_577]?;
     for (words, status) in &rows {
-        let (answer, written) = call(rt.alloc(), words, long.as_slice(), b"", [0; 3])?;
+        let (answer, written) = call(rt.alloc(), words, long.as_slice(), b"", &AMPLE)?;
         assert_eq!(rt; answer, *status);
         assert_eq!(rt; written.len(), 0);
     }

@@ -1,30 +1,25 @@
 // The top call.
-ghost use Rattle.std.specs.Prelude.{◌≡◌, ◌≢◌, ◌⊎◌, ◌≤◌, ℕ, List, length, false, None, IfSome, MatchOption};
-ghost use Rattle.ceu_bound.specs.PhaseB.{AreBounds};
-ghost use Rattle.ceu_compile.specs.Programs.{IsProgram};
+ghost use Rattle.std.specs.Prelude.{◌≡◌, ◌≢◌, ◌⊎◌, ◌≤◌, length, IfSome, MatchOption};
 ghost use Rattle.ceu_io.specs.Counts.{Rose};
-ghost use Rattle.ceu_run.specs.Forms as forms;
-ghost use Rattle.ceu_tree.specs.Needs.{memory};
-ghost use Rattle.ceu_top.specs.Answering as spec;
-ghost use Rattle.ceu_top.specs.Answering.{IsAnswer, IsFileAnswer, IsTextAnswer, IsWritten};
-ghost use Rattle.ceu_top.specs.Command.{file_of};
-ghost use Rattle.ceu_top.specs.Lines.{refusal_line};
-ghost use Rattle.ceu_top.specs.Outcomes.{On, Headline, IsAbsent, IsTooLong, IsWhole, IsCutShort, IsStopped, IsUnwritten, UnlessFailed};
+ghost use Rattle.ceu_top.specs.Answering.{IsAnswer, IsFileAnswer, IsTextAnswer};
+ghost use Rattle.ceu_top.specs.Command.{command_of};
+ghost use Rattle.ceu_top.specs.Outcomes.{On, Headline, IsAbsent, IsTooLong, IsWhole, IsCutShort, IsStopped, IsTaken, IsUnwritten, UnlessFailed, UnlessRun, UnlessRunning};
 
+use crate::checking::check_text;
 use crate::fetch::fetch;
-use crate::refusal::write_refusal;
+use crate::running::run_text;
 use crate::status::Status;
-use crate::words::file_of;
-use ceu_base::{Pos, Rule};
-use ceu_compile::{CompileError, Program, program_of};
-use ceu_driver::Played;
-use ceu_io::{Failed, Shelf, Sink, Source};
-use ceu_run::{first_unbuilt, run};
+use crate::tidying::tidy_text;
+use crate::words::{Mode, command_of};
+use ceu_io::{Shelf, Sink, Source};
 use std::alloc::Global;
 
-/// Does what the words of a command line say. The mode `run` fetches a program's text, prints the bytes of its memory and the turns and
-/// levels of its reactions, boots it, does the commands of a script, and prints each output when it is emitted and in the end how the
-/// program stands; or the first rule that the text breaks. Memory is wanted before the first byte is written and never later.
+/// Does what the words of a command line say: `run`, `check` or `tidy` with a file's name.
+///
+/// The mode `run` prints the bytes of a program's memory and the turns and levels of its reactions, boots it, does the commands of a
+/// script, and prints each output when it is emitted and in the end how the program stands. `check` prints the line of the memory alone,
+/// and `tidy` the program in the printer's form. A text that breaks a rule which the mode asks is refused by the first. Memory is wanted
+/// before the first byte is written and never later.
 pub fn ceu<S: Shelf, I: Source, O: Sink>(
     alloc: Global,
     words: &[String],
@@ -36,7 +31,7 @@ pub fn ceu<S: Shelf, I: Source, O: Sink>(
     // definitions give for the words, the file's text and the script.
     ensures headline { Headline result words.now (S.files shelf.old) (I.left input.old) (O.held out.old) (O.held out.new) (S.faults shelf.old) (S.faults shelf.new) (I.faults input.old) (I.faults input.new) (O.faults out.old) (O.faults out.new) }
     // Exactly where the words are no command.
-    ensures words { MatchOption (file_of words.now) (result ≡ Status.Words) (λ _. result ≢ Status.Words) }
+    ensures words { MatchOption (command_of words.now) (result ≡ Status.Words) (λ _. result ≢ Status.Words) }
     ensures absent { On Status.Absent result (IfSome (S.files shelf.old) (IsAbsent words.now)) }
     ensures too_long { On Status.TooLong result (IfSome (S.files shelf.old) (IsTooLong words.now)) }
     ensures done { On Status.Done result (IsWhole Status.Done words.now (S.files shelf.old) (I.left input.old) (O.held out.old) (O.held out.new)) }
@@ -48,7 +43,12 @@ pub fn ceu<S: Shelf, I: Source, O: Sink>(
     // What was written before the sink failed is a proper prefix of what is defined.
     ensures cut_short { On Status.Write result (IsCutShort words.now (S.files shelf.old) (I.left input.old) (O.held out.old) (O.held out.new)) }
     // What was written before the shelf or the script failed: nothing, or the run up to some whole lines.
-    ensures stopped { On Status.Read result (IsStopped words.now (S.files shelf.old) (I.left input.old) (O.held out.old) (O.held out.new)) }
+    ensures stopped { On Status.Read result (IsStopped words.now (S.files shelf.old) (I.left input.old) (I.left input.new) (O.held out.old) (O.held out.new)) }
+    // Where the input tells its bytes, at most 4,096 of them are taken from the start of a line that is reached, the first or one before which
+    // the program waits; after a failed write, of a line before which all is written.
+    ensures taken { IsTaken result words.now (S.files shelf.old) (I.left input.old) (I.left input.new) (O.held out.old) (O.held out.new) }
+    // `run` alone reads the script.
+    ensures unread { UnlessRunning words.now (input.new ≡ input.old) }
     // Words, Memory, Absent and TooLong come with nothing written.
     ensures unwritten { IsUnwritten result (O.held out.new ≡ O.held out.old) }
     // Every answer but Read and Write comes only where no count rose.
@@ -64,108 +64,46 @@ fn answer<S: Shelf, I: Source, O: Sink>(
     input: &mut I,
     out: &mut O,
 ) -> Status
-    ensures { IsAnswer result words.now (S.files shelf.old) (I.left input.old) (I.left input.new) (O.held out.old) (O.held out.new) (S.faults shelf.old) (S.faults shelf.new) (I.faults input.old) (I.faults input.new) (O.faults out.old) (O.faults out.new) }
+    ensures answer { IsAnswer result words.now (S.files shelf.old) (I.left input.old) (I.left input.new) (O.held out.old) (O.held out.new) (S.faults shelf.old) (S.faults shelf.new) (I.faults input.old) (I.faults input.new) (O.faults out.old) (O.faults out.new) }
+    ensures unread { UnlessRunning words.now (input.new ≡ input.old) }
 {
-    match file_of(words) {
-        Some(file) => run_file(alloc, file, shelf, input, out),
+    match command_of(words) {
+        Some((mode, file)) => on_file(alloc, mode, file, shelf, input, out),
         None => Status::Words,
     }
 }
 
-fn run_file<S: Shelf, I: Source, O: Sink>(
+fn on_file<S: Shelf, I: Source, O: Sink>(
     alloc: Global,
+    mode: Mode,
     file: &str,
     shelf: &mut S,
     input: &mut I,
     out: &mut O,
 ) -> Status
-    ensures { IsFileAnswer result file.now (S.files shelf.old) (I.left input.old) (I.left input.new) (O.held out.old) (O.held out.new) (S.faults shelf.old) (S.faults shelf.new) (I.faults input.old) (I.faults input.new) (O.faults out.old) (O.faults out.new) }
+    ensures answer { IsFileAnswer mode result file.now (S.files shelf.old) (I.left input.old) (I.left input.new) (O.held out.old) (O.held out.new) (S.faults shelf.old) (S.faults shelf.new) (I.faults input.old) (I.faults input.new) (O.faults out.old) (O.faults out.new) }
+    ensures unread { UnlessRun mode (input.new ≡ input.old) }
 {
     match fetch(alloc, file, shelf) {
-        Ok(text) => run_text(alloc, text.as_slice(), input, out),
+        Ok(text) => on_text(alloc, mode, text.as_slice(), input, out),
         Err(status) => status,
     }
 }
 
-fn run_text<I: Source, O: Sink>(alloc: Global, text: &[u8], input: &mut I, out: &mut O) -> Status
+fn on_text<I: Source, O: Sink>(
+    alloc: Global,
+    mode: Mode,
+    text: &[u8],
+    input: &mut I,
+    out: &mut O,
+) -> Status
     requires { length text.now ≤ 1048576 }
-    ensures { IsTextAnswer result text.now (I.left input.old) (I.left input.new) (O.held out.old) (O.held out.new) (I.faults input.old) (I.faults input.new) (O.faults out.old) (O.faults out.new) }
+    ensures answer { IsTextAnswer mode result text.now (I.left input.old) (I.left input.new) (O.held out.old) (O.held out.new) (I.faults input.old) (I.faults input.new) (O.faults out.old) (O.faults out.new) }
+    ensures unread { UnlessRun mode (input.new ≡ input.old) }
 {
-    match program_of(alloc, text) {
-        Ok(program) => run_program(alloc, &program, input, out),
-        Err(e) => match e {
-            CompileError::Refused(rule, pos) => refuse(rule, pos, out),
-            CompileError::Memory => Status::Memory,
-        },
-    }
-}
-
-fn run_program<I: Source, O: Sink>(
-    alloc: Global,
-    program: &Program,
-    input: &mut I,
-    out: &mut O,
-) -> Status
-    requires sized { program.now.memory ≡ memory false program.now.kernel }
-    requires bounded { AreBounds program.now.kernel program.now.bounds }
-    ensures { (text : List ℕ) → IsProgram text program.now.kernel → IsTextAnswer result text (I.left input.old) (I.left input.new) (O.held out.old) (O.held out.new) (I.faults input.old) (I.faults input.new) (O.faults out.old) (O.faults out.new) }
-{
-    match first_unbuilt(&program.kernel) {
-        Some(pos) => refuse(Rule::B0, pos, out),
-        None => run_built(alloc, program, input, out),
-    }
-}
-
-fn run_built<I: Source, O: Sink>(
-    alloc: Global,
-    program: &Program,
-    input: &mut I,
-    out: &mut O,
-) -> Status
-    requires built { forms.first_unbuilt program.now.kernel ≡ None }
-    requires sized { program.now.memory ≡ memory false program.now.kernel }
-    requires bounded { AreBounds program.now.kernel program.now.bounds }
-    ensures { (text : List ℕ) → IsProgram text program.now.kernel → IsTextAnswer result text (I.left input.old) (I.left input.new) (O.held out.old) (O.held out.new) (I.faults input.old) (I.faults input.new) (O.faults out.old) (O.faults out.new) }
-{
-    let bounds = program.bounds;
-    match run(
-        alloc,
-        &program.kernel,
-        program.memory,
-        bounds.turns,
-        bounds.levels,
-        input,
-        out,
-    ) {
-        Ok(played) => played_status(played),
-        Err(_) => Status::Memory,
-    }
-}
-
-fn played_status(played: Played) -> Status
-    ensures { result ≡ spec.played_status played }
-{
-    match played {
-        Played::Done => Status::Done,
-        Played::Fault => Status::Fault,
-        Played::Script => Status::Script,
-        Played::Read => Status::Read,
-        Played::Write => Status::Write,
-    }
-}
-
-// Writes the line of a refusal.
-fn refuse<O: Sink>(rule: Rule, pos: Pos, out: &mut O) -> Status
-    ensures { IsWritten (refusal_line rule pos) Status.Refused result (O.held out.old) (O.held out.new) (O.faults out.old) (O.faults out.new) }
-{
-    status_of(write_refusal(out, rule, pos), Status::Refused)
-}
-
-fn status_of(written: Result<(), Failed>, whole: Status) -> Status
-    ensures { result ≡ spec.status_of written whole }
-{
-    match written {
-        Ok(()) => whole,
-        Err(_) => Status::Write,
+    match mode {
+        Mode::Run => run_text(alloc, text, input, out),
+        Mode::Check => check_text(alloc, text, out),
+        Mode::Tidy => tidy_text(alloc, text, out),
     }
 }

@@ -1,8 +1,5 @@
-use Rattle.std.proofs.Common.{refl}
+use Rattle.std.proofs.Common.{refl, inl, inr}
 use Rattle.ceu_top.proofs.top.answer.Goals as goal
 
-pub returns-in-Some : goal.returns-in-Some
-returns-in-Some g c = record { is = rw c.in-Some.ensures c.run_file.ensures.is }
-
-pub returns-in-None : goal.returns-in-None
-returns-in-None g c = record { is = rw c.in-None.ensures (refl, refl, refl, refl, refl) }
+pub returns-in-None-clause-answer : goal.returns-in-None-clause-answer
+returns-in-None-clause-answer g c = record { is = inl (c.in-None.ensures, record { words = refl; unwritten = refl; unread = record { bytes = refl; input = refl }; shelf = refl; out = refl }) }

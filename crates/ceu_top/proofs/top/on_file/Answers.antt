@@ -1,0 +1,8 @@
+use Rattle.ceu_top.proofs.Answering.{file_answered, file_unanswered}
+use Rattle.ceu_top.proofs.top.on_file.Goals as goal
+
+pub returns-in-Ok-clause-answer : goal.returns-in-Ok-clause-answer
+returns-in-Ok-clause-answer g c = file_answered c.in-Ok.ensures c.as_slice.ensures.value c.on_text.ensures.answer
+
+pub returns-in-Err-clause-answer : goal.returns-in-Err-clause-answer
+returns-in-Err-clause-answer g c = file_unanswered c.in-Err.ensures

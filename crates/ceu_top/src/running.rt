@@ -1,0 +1,91 @@
+// The mode `run`.
+ghost use Rattle.std.specs.Prelude.{◌≡◌, ◌≤◌, ℕ, List, length, false, None};
+ghost use Rattle.ceu_bound.specs.PhaseB.{AreBounds};
+ghost use Rattle.ceu_compile.specs.Programs.{IsProgram};
+ghost use Rattle.ceu_run.specs.Forms as forms;
+ghost use Rattle.ceu_tree.specs.Needs.{memory};
+ghost use Rattle.ceu_top.specs.Answering as spec;
+ghost use Rattle.ceu_top.specs.Answering.{IsTextAnswer};
+
+use crate::status::Status;
+use crate::words::Mode;
+use crate::writing::refuse;
+use ceu_base::Rule;
+use ceu_compile::{CompileError, Program, program_of};
+use ceu_driver::Played;
+use ceu_io::{Sink, Source};
+use ceu_run::{first_unbuilt, run};
+use std::alloc::Global;
+
+/// Runs a text that breaks no rule on the script, or prints the line of the first that it breaks.
+pub(crate) fn run_text<I: Source, O: Sink>(
+    alloc: Global,
+    text: &[u8],
+    input: &mut I,
+    out: &mut O,
+) -> Status
+    requires { length text.now ≤ 1048576 }
+    ensures { IsTextAnswer Mode.Run result text.now (I.left input.old) (I.left input.new) (O.held out.old) (O.held out.new) (I.faults input.old) (I.faults input.new) (O.faults out.old) (O.faults out.new) }
+{
+    match program_of(alloc, text) {
+        Ok(program) => run_program(alloc, &program, input, out),
+        Err(e) => match e {
+            CompileError::Refused(rule, pos) => refuse(rule, pos, out),
+            CompileError::Memory => Status::Memory,
+        },
+    }
+}
+
+fn run_program<I: Source, O: Sink>(
+    alloc: Global,
+    program: &Program,
+    input: &mut I,
+    out: &mut O,
+) -> Status
+    requires sized { program.now.memory ≡ memory false program.now.kernel }
+    requires bounded { AreBounds program.now.kernel program.now.bounds }
+    ensures { (text : List ℕ) → IsProgram text program.now.kernel → IsTextAnswer Mode.Run result text (I.left input.old) (I.left input.new) (O.held out.old) (O.held out.new) (I.faults input.old) (I.faults input.new) (O.faults out.old) (O.faults out.new) }
+{
+    match first_unbuilt(&program.kernel) {
+        Some(pos) => refuse(Rule::B0, pos, out),
+        None => run_built(alloc, program, input, out),
+    }
+}
+
+fn run_built<I: Source, O: Sink>(
+    alloc: Global,
+    program: &Program,
+    input: &mut I,
+    out: &mut O,
+) -> Status
+    requires built { forms.first_unbuilt program.now.kernel ≡ None }
+    requires sized { program.now.memory ≡ memory false program.now.kernel }
+    requires bounded { AreBounds program.now.kernel program.now.bounds }
+    ensures { (text : List ℕ) → IsProgram text program.now.kernel → IsTextAnswer Mode.Run result text (I.left input.old) (I.left input.new) (O.held out.old) (O.held out.new) (I.faults input.old) (I.faults input.new) (O.faults out.old) (O.faults out.new) }
+{
+    let bounds = program.bounds;
+    match run(
+        alloc,
+        &program.kernel,
+        program.memory,
+        bounds.turns,
+        bounds.levels,
+        input,
+        out,
+    ) {
+        Ok(played) => played_status(played),
+        Err(_) => Status::Memory,
+    }
+}
+
+fn played_status(played: Played) -> Status
+    ensures { result ≡ spec.played_status played }
+{
+    match played {
+        Played::Done => Status::Done,
+        Played::Fault => Status::Fault,
+        Played::Script => Status::Script,
+        Played::Read => Status::Read,
+        Played::Write => Status::Write,
+    }
+}

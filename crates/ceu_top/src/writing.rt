@@ -1,0 +1,46 @@
+// What is known before the first byte is written whole, or up to the failure of the sink.
+ghost use Rattle.std.specs.Prelude.{◌≡◌};
+ghost use Rattle.ceu_run.specs.Lines.{memory_line};
+ghost use Rattle.ceu_top.specs.Answering as spec;
+ghost use Rattle.ceu_top.specs.Answering.{IsWritten};
+ghost use Rattle.ceu_top.specs.Lines.{refusal_line};
+
+use crate::lines::write_lines;
+use crate::refusal::write_refusal;
+use crate::status::Status;
+use ceu_base::{Pos, Rule};
+use ceu_compile::Program;
+use ceu_io::{Failed, Sink};
+use ceu_run::write_memory;
+
+fn status_of(written: Result<(), Failed>, whole: Status) -> Status
+    ensures { result ≡ spec.status_of written whole }
+{
+    match written {
+        Ok(()) => whole,
+        Err(_) => Status::Write,
+    }
+}
+
+/// Writes the line of a refusal.
+pub(crate) fn refuse<O: Sink>(rule: Rule, pos: Pos, out: &mut O) -> Status
+    ensures { IsWritten (refusal_line rule pos) Status.Refused result (O.held out.old) (O.held out.new) (O.faults out.old) (O.faults out.new) }
+{
+    status_of(write_refusal(out, rule, pos), Status::Refused)
+}
+
+/// Writes the memory line of a program.
+pub(crate) fn show_memory<O: Sink>(program: &Program, out: &mut O) -> Status
+    ensures { IsWritten (memory_line program.now.memory program.now.bounds.turns program.now.bounds.levels) Status.Done result (O.held out.old) (O.held out.new) (O.faults out.old) (O.faults out.new) }
+{
+    let bounds = program.bounds;
+    let written = write_memory(out, program.memory, bounds.turns, bounds.levels);
+    status_of(written, Status::Done)
+}
+
+/// Writes the lines of a text.
+pub(crate) fn show_text<O: Sink>(text: &[u8], out: &mut O) -> Status
+    ensures { IsWritten text.now Status.Done result (O.held out.old) (O.held out.new) (O.faults out.old) (O.faults out.new) }
+{
+    status_of(write_lines(out, text), Status::Done)
+}
