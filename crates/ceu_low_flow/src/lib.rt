@@ -1,0 +1,10 @@
+//! The lines of the statements of one trail.
+#![tactic(auto)]
+
+mod flow;
+mod loops;
+mod search;
+mod waits;
+mod words;
+
+pub use flow::lower_flow;
