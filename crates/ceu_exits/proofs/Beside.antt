@@ -1,5 +1,5 @@
 -- The walk through a program's types beside the draft of its kernel: both go past the same uses and keep their labels.
-use Rattle.std.proofs.Common.{◌≡◌, refl, sym, ap, ◌∙◌, subst, ℕ, ◌+◌, ◌≤◌, ◌<◌, length, arith, List, [], ◌∷◌, ◌++◌, Option, Some, None, Bool, true, false, inl, inr, ◌⊎◌}
+use Rattle.std.proofs.Common.{◌≡◌, refl, sym, ap, ◌∙◌, subst, ℕ, ◌+◌, ◌≤◌, ◌<◌, length, arith, List, Option, Some, None, Bool, true, false, inl, inr, ◌⊎◌}
 use Rattle.std.specs.Prelude.{nat_lt, slice_get, if◌then◌else◌}
 use Rattle.std.proofs.lemmas.Bool.{ltb-true, ltb-false}
 use Rattle.std.proofs.lemmas.Option.{slice_get_past}
@@ -23,7 +23,7 @@ use Rattle.ceu_tree.specs.declared.kernel.KKind.{KKind}
 use Rattle.ceu_tree.specs.declared.kernel.KStmt.{KStmt}
 use Rattle.ceu_expand.specs.Uses.{used, names_output}
 use Rattle.ceu_tree.specs.Proper.{Where}
-use Rattle.ceu_exits.proofs.Fine.{Fine, fine_asks, fine_own, fine_typed, fine_passed, fine_every, fine_async, fine_finalizer, fine_acts, fine_waits}
+use Rattle.ceu_exits.proofs.Fine.{Fine, fine_asks, fine_own, fine_typed, fine_passed, fine_async, fine_finalizer, fine_acts, fine_waits}
 
 -- ---- the place in the list of uses
 

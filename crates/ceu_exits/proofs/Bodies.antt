@@ -1,20 +1,19 @@
 -- The bodies of a program and of its codes: each exit has its target around it.
-use Rattle.std.proofs.Common.{◌≡◌, refl, sym, ap, ◌∙◌, subst, ℕ, suc, ◌+◌, ◌≤◌, ◌<◌, length, arith, List, [], ◌∷◌, ◌++◌, Option, Some, None, Ok, inl, Bool, true, false}
-use Rattle.std.specs.Prelude.{⊤, IsTrue, ◌==◌, nat_le, not, if◌then◌else◌, fold}
+use Rattle.std.proofs.Common.{◌≡◌, refl, sym, ap, ◌∙◌, subst, ℕ, ◌<◌, length, arith, List, [], ◌∷◌, Option, Some, None, Ok, inl, Bool, true, false}
+use Rattle.std.specs.Prelude.{◌==◌, nat_le, if◌then◌else◌, fold}
 use Rattle.std.proofs.lemmas.Bool.Decides.{Decides-eqb}
 use Rattle.ceu_base.specs.declared.kinds.Ty.{Ty}
 use Rattle.ceu_base.specs.declared.kinds.Ty.TheVariants as ty
 use Rattle.ceu_base.specs.declared.kinds.Pos.{Pos}
-use Rattle.ceu_base.specs.declared.kinds.Rule.TheVariants.{T1, T4}
+use Rattle.ceu_base.specs.declared.kinds.Rule.TheVariants.{T4}
 use Rattle.ceu_tree.specs.declared.source.Ident.{Ident}
 use Rattle.ceu_tree.specs.declared.source.Param.{Param}
 use Rattle.ceu_tree.specs.declared.source.Block.{Block, Block', Row_of-Node, end_of-Node, more_of-Node}
 use Rattle.ceu_tree.specs.declared.source.Stmt as stmt
 use Rattle.ceu_tree.specs.declared.source.Stmt.{Stmt, Vars', If', Par'}
 use Rattle.ceu_tree.specs.declared.source.Tree.{Tree}
-use Rattle.ceu_tree.specs.declared.kernel.KCode.{KCode}
 use Rattle.ceu_tree.specs.declared.kernel.KBlock.{KBlock, out-KBlock, roll-KBlock}
-use Rattle.ceu_tree.specs.Proper.{Aim, BodyAim, Where, InTrail}
+use Rattle.ceu_tree.specs.Proper.{Aim, BodyAim, InTrail}
 use Rattle.ceu_scopes.specs.declared.known.Scopes.{Scopes}
 use Rattle.ceu_types.specs.declared.typing.Types.{Types}
 use Rattle.ceu_types.specs.declared.found.Found.{Found}
@@ -26,8 +25,7 @@ use Rattle.ceu_types.specs.Around.{program_around, label_takes}
 use Rattle.ceu_types.specs.Statements.{acts, name_typed, param_found, params_found, stmt_found, block_found, nodes_found, nothing_found, answer, types_of}
 use Rattle.ceu_expand.specs.declared.around.Around as draft_around
 use Rattle.ceu_expand.specs.declared.draft.Draft.{Draft}
-use Rattle.ceu_expand.specs.Draft as draft
-use Rattle.ceu_expand.specs.Draft.{of_program, of_code, nothing_written, opened, outside, written, closed, block_of, around_block, standing, entered, left, with_code}
+use Rattle.ceu_expand.specs.Draft.{of_program, nothing_written, opened, outside, written, closed, block_of, standing, entered, left, with_code}
 use Rattle.ceu_expand.specs.Lists.{each}
 use Rattle.ceu_expand.specs.Parts.{param_declared}
 use Rattle.ceu_expand.specs.Expansion.{declared_in, code_begun, code_around, code_ended, stmt_written, nodes_written, block_written, block_passed, counted, kernel_of}
@@ -41,7 +39,7 @@ use Rattle.ceu_exits.proofs.Fine.{Fine, fine_ended, fine_begun}
 use Rattle.ceu_exits.proofs.Beside.{Alike, Level, Step, none_step, step_then, asks_step, acts_step, block_step}
 use Rattle.ceu_exits.proofs.Pieces.{typed_name_step}
 use Rattle.ceu_exits.proofs.Held.{Holds, holds_opened, holds_block, Rel}
-use Rattle.ceu_exits.proofs.Standing.{Main, stmt_main, nodes_main, node_main}
+use Rattle.ceu_exits.proofs.Standing.{Main, stmt_main, nodes_main}
 use denote.Hole.Carrier
 
 own_body : (n : ℕ) (u : Ty) → taken_at n (BodyAim n u ∷ []) ≡ Some u

@@ -1,6 +1,6 @@
 -- What stands in a draft has its targets around it, and what is around it there.
-use Rattle.std.proofs.Common.{◌≡◌, refl, sym, ap, ◌∙◌, subst, ℕ, suc, ◌+◌, ◌≤◌, ◌<◌, length, arith, List, [], ◌∷◌, ◌++◌, Option, Some, None, Bool, true, false}
-use Rattle.std.specs.Prelude.{⊤, IsTrue, ◌==◌, ◌||◌, if◌then◌else◌, bytes_eq}
+use Rattle.std.proofs.Common.{◌≡◌, refl, sym, ap, ◌∙◌, subst, ℕ, ◌+◌, ◌≤◌, ◌<◌, arith, List, [], ◌∷◌, ◌++◌, Option, Some, None, Bool, true, false}
+use Rattle.std.specs.Prelude.{IsTrue, ◌==◌, ◌||◌, if◌then◌else◌, bytes_eq}
 use Rattle.std.specs.List.{list_any}
 use Rattle.std.specs.Option.{option_or}
 use Rattle.std.proofs.lemmas.Bool.Decides.{Decides-eqb}
@@ -20,7 +20,7 @@ use Rattle.ceu_tree.specs.declared.kernel.KBlock.{KBlock, roll-KBlock, Row_of-KN
 use Rattle.ceu_tree.specs.declared.kernel.KStmt as kernel
 use Rattle.ceu_tree.specs.declared.kernel.KStmt.{KStmt, Row_of-KArm, end_of-KArm, more_of-KArm, items-the_row-KArm, items_hidden-the_row-KArm-0, items_hidden-the_row-KBlock-1, Row_of-KBlock, end_of-KBlock, more_of-KBlock, items-the_row-KBlock}
 use Rattle.ceu_tree.specs.declared.kernel.KStmt.TheBlock.{hidden-the_row-KArm-0, hidden-the_row-KBlock-1, hidden-the_row-KNode-2}
-use Rattle.ceu_tree.specs.Proper.{Aim, DoAim, BodyAim, LoopAim, Where, InTrail, InsideAsync, InFinalizer, is_trail, outside_finalizers}
+use Rattle.ceu_tree.specs.Proper.{Aim, DoAim, BodyAim, LoopAim, Where, InsideAsync, InFinalizer, is_trail, outside_finalizers}
 use Rattle.ceu_scopes.specs.declared.known.Scopes.{Scopes}
 use Rattle.ceu_types.specs.declared.found.Found.{Found}
 use Rattle.ceu_types.specs.declared.found.LabelTarget.{LabelTarget}
@@ -37,7 +37,6 @@ use Rattle.ceu_proper.specs.Shaped.{AllOf}
 use Rattle.ceu_proper.proofs.Good.{all_append}
 use Rattle.ceu_exits.specs.Exits.{taken_at, is_loop, aim_of, DeclStands, StmtStands, BlockStands, ArmStands, NodesStand, ArmsStand, BlocksStand}
 use Rattle.ceu_exits.proofs.Beside.{Level, Step}
-use Rattle.ceu_exits.proofs.Fine.{Fine}
 use denote.Hole.Carrier
 
 abbrev pub NodeStands : Where → List Aim → KNode → Type 0

@@ -1,10 +1,9 @@
 -- Statements without blocks of the text's own have what they need around them.
-use Rattle.std.proofs.Common.{◌≡◌, refl, sym, ap, ◌∙◌, subst, ℕ, suc, ◌+◌, ◌≤◌, length, arith, List, [], ◌∷◌, ◌++◌, Option, Some, None, Bool, true, false}
-use Rattle.std.specs.Prelude.{⊤, IsTrue, not, ◌==◌, ◌||◌, if◌then◌else◌}
+use Rattle.std.proofs.Common.{◌≡◌, refl, sym, ap, ◌∙◌, ℕ, List, [], ◌∷◌, Option, Some, None, Bool, true, false}
+use Rattle.std.specs.Prelude.{IsTrue, ◌==◌, ◌||◌, if◌then◌else◌}
 use Rattle.std.specs.List.{list_any}
 use Rattle.std.proofs.lemmas.Bool.Decides.{Decides-eqb}
 use Rattle.ceu_base.specs.declared.kinds.Ty.{Ty}
-use Rattle.ceu_base.specs.declared.kinds.Ty.TheVariants as ty
 use Rattle.ceu_base.specs.declared.kinds.Pos.{Pos}
 use Rattle.ceu_base.specs.declared.kinds.Rule.TheVariants.{T4}
 use Rattle.ceu_tree.specs.declared.source.Ident.{Ident}
@@ -16,42 +15,34 @@ use Rattle.ceu_tree.specs.declared.source.Await.{Await}
 use Rattle.ceu_tree.specs.declared.source.Await.TheVariants as await
 use Rattle.ceu_tree.specs.declared.source.Exp.{Exp}
 use Rattle.ceu_tree.specs.declared.kernel.Loc.{Loc}
-use Rattle.ceu_tree.specs.declared.kernel.KExp.{KExp}
 use Rattle.ceu_tree.specs.declared.kernel.KKind.{KKind}
 use Rattle.ceu_tree.specs.declared.kernel.KKind.TheVariants as kind
 use Rattle.ceu_tree.specs.declared.kernel.KLoop.TheVariants as turns
 use Rattle.ceu_tree.specs.declared.kernel.KArm.{KArm'}
 use Rattle.ceu_tree.specs.declared.kernel.KStmt as kernel
 use Rattle.ceu_tree.specs.declared.kernel.KStmt.{KStmt}
-use Rattle.ceu_tree.specs.Typing.{same_ty}
 use Rattle.ceu_tree.specs.Proper.{Aim, LoopAim, Where, is_trail, outside_asyncs, outside_finalizers}
 use Rattle.ceu_scopes.specs.declared.known.Scopes.{Scopes}
 use Rattle.ceu_types.specs.declared.typing.Types.{Types}
 use Rattle.ceu_types.specs.declared.found.Found.{Found}
-use Rattle.ceu_types.specs.declared.around.Around as types_around
-use Rattle.ceu_types.specs.Typing.{is_none_type}
 use Rattle.ceu_types.specs.Notes.{asks_own, passed, not_in_async, not_in_finalizer}
 use Rattle.ceu_types.specs.Uses.{use_type, is_output_use}
 use Rattle.ceu_types.specs.Expressions.{condition, given}
-use Rattle.ceu_types.specs.Around as types
-use Rattle.ceu_types.specs.Around.{target_takes, takes_value}
-use Rattle.ceu_types.specs.Statements.{if_given, call_found, spawn_found, target_found, await_found, if_spawn_found, emitted, emit_found, escape_found, acts}
-use Rattle.ceu_expand.specs.declared.around.Around as draft_around
+use Rattle.ceu_types.specs.Around.{takes_value}
+use Rattle.ceu_types.specs.Statements.{if_given, call_found, spawn_found, target_found, await_found, if_spawn_found, emitted, emit_found, acts}
 use Rattle.ceu_expand.specs.declared.draft.Draft.{Draft}
 use Rattle.ceu_expand.specs.Draft.{begun, hidden, placed, opened, block_of, around_block, declared}
 use Rattle.ceu_expand.specs.Lists.{each}
-use Rattle.ceu_expand.specs.Uses as uses
 use Rattle.ceu_expand.specs.Uses.{names_output, use_number, used}
-use Rattle.ceu_expand.specs.Expressions.{exp_passed, if_exp_passed, exp_written, if_exp_written}
+use Rattle.ceu_expand.specs.Expressions.{exp_passed, if_exp_passed, exp_written}
 use Rattle.ceu_expand.specs.Parts as parts
 use Rattle.ceu_expand.specs.Parts.{simple, nothing_in, assigned, sent, escaped, await_written, target_passed, target_awaited, broken_if, awaited_and_asked, awaited_until, code_awaited, awaited, spawned, started, alias_declared, pool_declared, killed}
-use Rattle.ceu_proper.specs.Shaped.{AllOf}
 use Rattle.ceu_proper.proofs.Frames.{frame, frame_used, frame_exp, frame_if_exp, frame_each, frame_target}
-use Rattle.ceu_exits.specs.Exits.{taken_at, is_given, is_left, is_loop, DeclStands, StmtStands, BlockStands, ArmStands}
-use Rattle.ceu_exits.proofs.Fine.{Fine, fine_asks, fine_own, fine_passed, fine_async, fine_finalizer, fine_acts, outside_trail}
-use Rattle.ceu_exits.proofs.Beside.{Level, Step, none_step, step_then, draft_step, used_step, own_step, acts_step, waits_step, finalizer_step, async_step, begun_step, hidden_step, declared_step, placed_step, opened_step, block_step, same_type, same_output}
-use Rattle.ceu_exits.proofs.Pieces.{exp_step, given_step, condition_step, if_given_step, call_step, spawn_step, target_step, emitted_step, emit_step, escape_step}
-use Rattle.ceu_exits.proofs.Held.{Holds, holds_as, holds_placed, holds_declared, holds_opened, holds_block, around_parts, if_stands, Rel}
+use Rattle.ceu_exits.specs.Exits.{is_loop, DeclStands, StmtStands, BlockStands}
+use Rattle.ceu_exits.proofs.Fine.{Fine, fine_own, fine_passed, fine_async, fine_acts, outside_trail}
+use Rattle.ceu_exits.proofs.Beside.{Level, Step, none_step, step_then, used_step, acts_step, begun_step, hidden_step, declared_step, placed_step, block_step, same_output}
+use Rattle.ceu_exits.proofs.Pieces.{given_step, condition_step, if_given_step, call_step, spawn_step, target_step, emit_step}
+use Rattle.ceu_exits.proofs.Held.{Holds, holds_as, holds_placed, holds_declared, holds_opened, holds_block, around_parts, if_stands}
 
 -- ---- the parts of a draft stay
 

@@ -1,6 +1,6 @@
 -- Expressions, calls, awaits, emissions, escapes: the walk through types beside the draft.
-use Rattle.std.proofs.Common.{◌≡◌, refl, sym, ap, ◌∙◌, subst, ℕ, ◌+◌, ◌≤◌, length, arith, List, [], ◌∷◌, ◌++◌, Option, Some, None, Bool, true, false}
-use Rattle.std.specs.Prelude.{fold, if◌then◌else◌}
+use Rattle.std.proofs.Common.{◌≡◌, refl, ℕ, ◌+◌, List, [], ◌∷◌, Option, Some, None, Bool, true, false}
+use Rattle.std.specs.Prelude.{if◌then◌else◌}
 use Rattle.ceu_base.specs.declared.kinds.Ty.{Ty}
 use Rattle.ceu_base.specs.declared.kinds.Ty.TheVariants as ty
 use Rattle.ceu_base.specs.declared.kinds.Pos.{Pos}
@@ -11,32 +11,25 @@ use Rattle.ceu_tree.specs.declared.source.Call.{Call}
 use Rattle.ceu_tree.specs.declared.source.Spawn.{Spawn}
 use Rattle.ceu_tree.specs.declared.source.Target.{Target}
 use Rattle.ceu_tree.specs.declared.source.Target.TheVariants as target
-use Rattle.ceu_tree.specs.declared.source.Await.{Await}
-use Rattle.ceu_tree.specs.declared.source.Await.TheVariants as await
 use Rattle.ceu_tree.specs.declared.source.Exp.{Exp}
 use Rattle.ceu_tree.specs.declared.source.ExpNode as exp
 use Rattle.ceu_tree.specs.declared.source.ExpNode.{ExpNode, Row_of-Exp, end_of-Exp, more_of-Exp, One', Two', As'}
-use Rattle.ceu_tree.specs.declared.kernel.Loc.{Loc}
-use Rattle.ceu_tree.specs.declared.kernel.KStmt as kernel
-use Rattle.ceu_tree.specs.declared.kernel.KStmt.{KStmt}
 use Rattle.ceu_scopes.specs.declared.known.Scopes.{Scopes}
 use Rattle.ceu_types.specs.declared.found.Found.{Found}
-use Rattle.ceu_types.specs.Notes.{asks, asks_own, typed, passed, not_in_async, not_in_finalizer}
+use Rattle.ceu_types.specs.Notes.{asks, asks_own, passed, not_in_async, not_in_finalizer}
 use Rattle.ceu_types.specs.Expressions.{row_negated, literal_or, literal_found, node_found, row_found, exp_found, given, condition, time}
-use Rattle.ceu_types.specs.Uses.{use_type, is_output_use, has_parameters, parameter_type}
+use Rattle.ceu_types.specs.Uses.{is_output_use}
 use Rattle.ceu_types.specs.Around as found_around
-use Rattle.ceu_types.specs.Statements.{if_given, arguments_found, call_found, spawn_found, target_found, until_found, await_found, taken, waits, acts, emitted, emit_found, escape_found, name_typed, use_passed, uses_passed, every_takes, target_type}
+use Rattle.ceu_types.specs.Statements.{if_given, arguments_found, call_found, spawn_found, target_found, taken, acts, emitted, emit_found, escape_found, name_typed, uses_passed, every_takes}
 use Rattle.ceu_types.specs.declared.around.Around as types_around
 use Rattle.ceu_types.specs.Typing.{is_none_type, holds}
 use Rattle.ceu_expand.specs.declared.draft.Draft.{Draft}
-use Rattle.ceu_expand.specs.Draft as draft
-use Rattle.ceu_expand.specs.Draft.{around_block}
 use Rattle.ceu_expand.specs.Lists.{each}
 use Rattle.ceu_expand.specs.Uses.{used, if_used}
 use Rattle.ceu_expand.specs.Expressions as written
 use Rattle.ceu_expand.specs.Expressions.{exp_passed, if_exp_passed, node_passed, row_passed}
 use Rattle.ceu_expand.specs.Parts.{target_passed, name_passed}
-use Rattle.ceu_exits.proofs.Beside.{Step, none_step, step_then, found_step, draft_step, used_step, asks_step, own_step, type_step, acts_step, waits_step, finalizer_step, async_step, typed_step, begun_step, hidden_step, standing_step}
+use Rattle.ceu_exits.proofs.Beside.{Step, none_step, step_then, used_step, asks_step, own_step, type_step, acts_step, finalizer_step, async_step, typed_step}
 
 module _ (s : Scopes) where
   -- ---- expressions

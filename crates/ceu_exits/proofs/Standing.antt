@@ -1,6 +1,6 @@
 -- Each statement of a text that breaks no rule on types has in the kernel what it needs around it.
-use Rattle.std.proofs.Common.{◌≡◌, refl, sym, ap, ◌∙◌, subst, ℕ, suc, ◌+◌, ◌≤◌, length, arith, List, [], ◌∷◌, ◌++◌, Option, Some, None, Bool, true, false}
-use Rattle.std.specs.Prelude.{⊤, IsTrue, not, ◌==◌, ◌||◌, if◌then◌else◌}
+use Rattle.std.proofs.Common.{◌≡◌, refl, sym, ap, ◌∙◌, subst, ℕ, length, arith, List, [], ◌∷◌, ◌++◌, Option, Some, None, Bool, true, false}
+use Rattle.std.specs.Prelude.{IsTrue, not, if◌then◌else◌}
 use Rattle.std.specs.List.{list_any}
 use Rattle.ceu_base.specs.declared.kinds.Ty.{Ty}
 use Rattle.ceu_base.specs.declared.kinds.Ty.TheVariants as ty
@@ -16,7 +16,7 @@ use Rattle.ceu_tree.specs.declared.source.Source.{Source}
 use Rattle.ceu_tree.specs.declared.source.Item.{Held-Item-value, Item-value-None', Item-value-Some'}
 use Rattle.ceu_tree.specs.declared.source.Do.{Do, Do'}
 use Rattle.ceu_tree.specs.declared.source.Block.{Block, Block', Row_of-Node, end_of-Node, more_of-Node}
-use Rattle.ceu_tree.specs.declared.source.Arm.{Arm, Arm'}
+use Rattle.ceu_tree.specs.declared.source.Arm.{Arm'}
 use Rattle.ceu_tree.specs.declared.source.Range.{Range, Range'}
 use Rattle.ceu_tree.specs.declared.source.Stmt as stmt
 use Rattle.ceu_tree.specs.declared.source.Stmt.{Stmt, Vars', If', Par', Row_of-Item, end_of-Item, more_of-Item, Row_of-Arm, end_of-Arm, more_of-Arm, Row_of-Block, end_of-Block, more_of-Block, Held-Stmt-If-1, Stmt-If-1-None', Stmt-If-1-Some'}
@@ -29,7 +29,7 @@ use Rattle.ceu_tree.specs.declared.kernel.ParKind.TheVariants as par
 use Rattle.ceu_tree.specs.declared.kernel.KStmt as kernel
 use Rattle.ceu_tree.specs.declared.kernel.KStmt.{KStmt}
 use Rattle.ceu_tree.specs.Typing.{same_ty}
-use Rattle.ceu_tree.specs.Proper.{Aim, LoopAim, Where, InTrail, InsideAsync, InFinalizer, is_trail, outside_asyncs, outside_finalizers}
+use Rattle.ceu_tree.specs.Proper.{Aim, LoopAim, Where, InTrail, InsideAsync, InFinalizer, is_trail, outside_finalizers}
 use Rattle.ceu_scopes.specs.declared.known.Scopes.{Scopes}
 use Rattle.ceu_types.specs.declared.typing.Types.{Types}
 use Rattle.ceu_types.specs.declared.found.Found.{Found}
@@ -37,12 +37,11 @@ use Rattle.ceu_types.specs.declared.found.LabelTarget.{LabelTarget}
 use Rattle.ceu_types.specs.declared.around.Around as types_around
 use Rattle.ceu_types.specs.Typing.{is_none_type}
 use Rattle.ceu_types.specs.Notes.{asks_own, passed, not_in_every, not_in_async, not_in_finalizer, begun, ended_after, ended}
-use Rattle.ceu_types.specs.Notes as notes
 use Rattle.ceu_types.specs.Uses.{use_type}
 use Rattle.ceu_types.specs.Expressions.{condition, given, or_none}
 use Rattle.ceu_types.specs.Around as types
 use Rattle.ceu_types.specs.Around.{async_around, loop_around, do_around, label_takes, target_takes, takes_value, jumped}
-use Rattle.ceu_types.specs.Statements.{if_given, target_found, await_found, taken, waits, acts, await_type, escape_found, name_typed, uses_passed, every_takes, every_begun, every_ended, finalizer_begun, finalizer_ended, async_begun, async_ended, stmt_found, source_found, value_found, do_found, block_found, arm_found, last_found, range_found, items_found, arms_found, blocks_found, nodes_found}
+use Rattle.ceu_types.specs.Statements.{target_found, taken, waits, acts, await_type, escape_found, name_typed, uses_passed, every_takes, every_begun, every_ended, finalizer_begun, finalizer_ended, async_begun, async_ended, stmt_found, source_found, value_found, do_found, block_found, last_found, range_found, items_found, arms_found, blocks_found, nodes_found}
 use Rattle.ceu_expand.specs.declared.around.Around as draft_around
 use Rattle.ceu_expand.specs.declared.draft.Draft.{Draft}
 use Rattle.ceu_expand.specs.declared.draft.LabelNode.{LabelNode}
@@ -51,18 +50,18 @@ use Rattle.ceu_expand.specs.Draft.{in_loop, in_do, hidden, placed, opened, block
 use Rattle.ceu_expand.specs.Lists.{each}
 use Rattle.ceu_expand.specs.Uses as uses
 use Rattle.ceu_expand.specs.Uses.{variable, used, if_variable, if_used}
-use Rattle.ceu_expand.specs.Expressions.{exp_passed, if_exp_passed, if_exp_written, exp_written}
-use Rattle.ceu_expand.specs.Parts.{simple, zeroed, nothing_in, assigned, escaped, target_awaited, name_passed}
-use Rattle.ceu_expand.specs.Expansion.{row_blocks, par_hidden, par_slot, turns_written, turns_passed, range_hidden, range_written, range_passed, declared_in, stmt_written, source_written, value_written, do_written, ranged, every_written, every_passed, block_written, block_passed, arm_written, arm_passed, last_written, last_passed, nodes_written, items_written, arms_written, arms_passed, blocks_written, blocks_passed}
+use Rattle.ceu_expand.specs.Expressions.{exp_passed, if_exp_passed, if_exp_written}
+use Rattle.ceu_expand.specs.Parts.{simple, nothing_in, escaped, target_awaited, name_passed}
+use Rattle.ceu_expand.specs.Expansion.{row_blocks, par_hidden, par_slot, turns_written, turns_passed, range_written, range_passed, declared_in, stmt_written, source_written, value_written, do_written, ranged, every_written, every_passed, block_written, block_passed, last_written, last_passed, nodes_written, items_written, arms_written, arms_passed, blocks_written, blocks_passed}
 use Rattle.ceu_proper.specs.Shaped.{AllOf}
-use Rattle.ceu_proper.proofs.Codes.{NoCode, NoCodeInSource, NoCodeInValue, NoCodeInDo, NoCodeInBlock, NoCodeInArm, NoCodeInLast, NoCodeInRange, NoCodeInItems, NoCodeInArms, NoCodeInBlocks, NoCodeInNodes}
+use Rattle.ceu_proper.proofs.Codes.{NoCode, NoCodeInSource, NoCodeInValue, NoCodeInDo, NoCodeInBlock, NoCodeInLast, NoCodeInRange, NoCodeInItems, NoCodeInArms, NoCodeInBlocks, NoCodeInNodes}
 use Rattle.ceu_proper.proofs.Frames.{frame_used, frame_if_used, frame_standing, frame_labelled, frame_unlabelled, frame_exp, frame_if_exp, frame_each}
 use Rattle.ceu_exits.specs.Exits.{taken_at, is_given, is_left, is_loop, aim_of, StmtStands, BlockStands, ArmStands}
-use Rattle.ceu_exits.proofs.Fine.{Fine, Allows, fine_as, fine_own, fine_passed, fine_every, fine_async, fine_finalizer, fine_acts, fine_waits, fine_ended, fine_begun, outside_trail, trail_is}
-use Rattle.ceu_exits.proofs.Beside.{Level, Step, none_step, step_then, found_step, draft_step, used_step, own_step, acts_step, waits_step, finalizer_step, async_step, begun_step, hidden_step, standing_step, declared_step, placed_step, opened_step, block_step, same_type, own_names, own_labels, Alike}
-use Rattle.ceu_exits.proofs.Pieces.{given_step, condition_step, if_given_step, target_step, taken_step, typed_name_step, escape_step, jumped_step, names_step, every_step}
+use Rattle.ceu_exits.proofs.Fine.{Fine, Allows, fine_as, fine_own, fine_every, fine_async, fine_finalizer, fine_acts, fine_waits, fine_ended, fine_begun, outside_trail}
+use Rattle.ceu_exits.proofs.Beside.{Level, Step, none_step, step_then, found_step, draft_step, used_step, own_step, acts_step, waits_step, finalizer_step, begun_step, hidden_step, standing_step, placed_step, opened_step, block_step, same_type, own_names, own_labels, Alike}
+use Rattle.ceu_exits.proofs.Pieces.{given_step, condition_step, if_given_step, taken_step, typed_name_step, escape_step, jumped_step, names_step, every_step}
 use Rattle.ceu_exits.proofs.Held.{Holds, holds_as, holds_placed, holds_opened, holds_block, around_parts, if_stands, par_stands, value_of, dropped_target, dropped_node, Rel, rel_step, rel_loop, rel_do, rel_async, rel_finalizer}
-use Rattle.ceu_exits.proofs.Leaves.{Part, placed_part, simple_part, part_then, same_part, assigned_part, emitted_part, killed_part, Wait, target_wait, await_wait, spawned_part, declared_part, alias_part, pool_part, begun_parts, hidden_parts, parts_of}
+use Rattle.ceu_exits.proofs.Leaves.{Part, simple_part, same_part, assigned_part, emitted_part, killed_part, target_wait, await_wait, spawned_part, declared_part, alias_part, pool_part, begun_parts, hidden_parts, parts_of}
 
 module _ (s : Scopes) (t : Types) where
   -- a statement, with what is around it in the text and in the kernel

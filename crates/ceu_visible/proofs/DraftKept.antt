@@ -1,9 +1,8 @@
 -- What the draft of a kernel keeps over a statement inside of another block, if each step of the draft keeps it.
-use Rattle.std.proofs.Common.{◌≡◌, refl, sym, ap, ◌∙◌, subst, ℕ, ◌+◌, ◌<◌, length, arith, List, [], ◌∷◌, ◌++◌, Option, Some, None}
+use Rattle.std.proofs.Common.{◌≡◌, ℕ, List, [], ◌∷◌, Option, Some, None}
 use Rattle.ceu_base.specs.declared.kinds.Ty.{Ty}
 use Rattle.ceu_base.specs.declared.kinds.Pos.{Pos}
 use Rattle.ceu_tree.specs.declared.source.Ident.{Ident}
-use Rattle.ceu_tree.specs.declared.source.Param.{Param}
 use Rattle.ceu_tree.specs.declared.source.Call.{Call}
 use Rattle.ceu_tree.specs.declared.source.Spawn.{Spawn}
 use Rattle.ceu_tree.specs.declared.source.Target.{Target}
@@ -19,7 +18,6 @@ use Rattle.ceu_tree.specs.declared.source.Arm.{Arm, Arm'}
 use Rattle.ceu_tree.specs.declared.source.Range.{Range, Range'}
 use Rattle.ceu_tree.specs.declared.source.Stmt as stmt
 use Rattle.ceu_tree.specs.declared.source.Stmt.{Stmt, Vars', If', Par', Row_of-Item, end_of-Item, more_of-Item, Row_of-Arm, end_of-Arm, more_of-Arm, Row_of-Block, end_of-Block, more_of-Block, Held-Stmt-If-1, Stmt-If-1-None', Stmt-If-1-Some'}
-use Rattle.ceu_tree.specs.declared.source.Tree.{Tree}
 use Rattle.ceu_tree.specs.declared.kernel.Loc.{Loc}
 use Rattle.ceu_tree.specs.declared.kernel.KKind.TheVariants as kind
 use Rattle.ceu_tree.specs.declared.kernel.KKind.{KKind}
@@ -30,18 +28,17 @@ use Rattle.ceu_tree.specs.declared.source.ExpNode.{ExpNode, Row_of-Exp, end_of-E
 use Rattle.ceu_tree.specs.declared.source.Target.TheVariants as target
 use Rattle.ceu_tree.specs.declared.kernel.KStmt as kernel
 use Rattle.ceu_tree.specs.declared.kernel.KStmt.{KStmt}
-use Rattle.ceu_tree.specs.declared.kernel.KEvent.{KEvent}
 use Rattle.ceu_tree.specs.declared.source.Label.TheVariants as label
 use Rattle.ceu_scopes.specs.declared.known.Scopes.{Scopes}
 use Rattle.ceu_types.specs.declared.typing.Types.{Types}
 use Rattle.ceu_expand.specs.declared.around.Around.{Around}
 use Rattle.ceu_expand.specs.declared.draft.Draft.{Draft}
-use Rattle.ceu_expand.specs.Draft.{of_program, outside, closed, in_loop, in_do, nothing_written, begun, hidden, opened, placed, around_block, standing, declared, event_declared, input_declared, output_declared, own, entered, left, with_code, labelled, unlabelled}
+use Rattle.ceu_expand.specs.Draft.{in_loop, in_do, begun, hidden, opened, placed, around_block, standing, declared, event_declared, input_declared, output_declared, own, labelled, unlabelled}
 use Rattle.ceu_expand.specs.Lists.{each}
 use Rattle.ceu_expand.specs.Uses.{use_number, variable, used, if_variable, if_used}
 use Rattle.ceu_expand.specs.Expressions.{typed, node_passed, row_passed, exp_passed, if_exp_passed, exp_written}
-use Rattle.ceu_expand.specs.Parts.{simple, nothing_in, emitted, escaped, await_written, target_passed, target_awaited, broken_if, awaited_and_asked, awaited_until, code_awaited, awaited, spawned, started, alias_declared, pool_declared, killed, param_declared, name_passed}
-use Rattle.ceu_expand.specs.Expansion.{row_blocks, par_hidden, turns_passed, range_hidden, range_passed, declared_in, code_begun, code_around, code_ended, stmt_written, source_written, value_written, do_written, ranged, every_passed, block_passed, arm_passed, last_passed, nodes_written, items_written, arms_passed, blocks_passed, counted, kernel_of}
+use Rattle.ceu_expand.specs.Parts.{simple, nothing_in, emitted, escaped, await_written, target_passed, target_awaited, broken_if, awaited_and_asked, awaited_until, code_awaited, awaited, spawned, started, alias_declared, pool_declared, killed, name_passed}
+use Rattle.ceu_expand.specs.Expansion.{row_blocks, par_hidden, turns_passed, range_hidden, range_passed, declared_in, stmt_written, source_written, value_written, do_written, ranged, every_passed, block_passed, arm_passed, last_passed, nodes_written, items_written, arms_passed, blocks_passed}
 use Rattle.ceu_visible.proofs.Inner.{Inner, InnerInSource, InnerInValue, InnerInDo, InnerInBlock, InnerInArm, InnerInLast, InnerInRange, InnerInItems, InnerInArms, InnerInBlocks, InnerInNodes}
 
 -- a fact on drafts that each step keeps

@@ -4,3 +4,7 @@ pub mod NamesKept
 pub mod DraftKept
 pub mod PortSteps
 pub mod PortLaws
+pub mod Stepping
+pub mod Pieces
+pub mod Using
+pub mod UsingCodes

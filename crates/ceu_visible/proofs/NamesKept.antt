@@ -1,5 +1,5 @@
 -- What a walk through a program's names keeps, if each of its steps keeps it.
-use Rattle.std.proofs.Common.{◌≡◌, refl, ℕ, suc, ◌≤◌, length, arith, List, [], ◌∷◌, ◌++◌, Option, Some, None, Result, Ok}
+use Rattle.std.proofs.Common.{ℕ, suc, ◌≤◌, arith, List, [], ◌∷◌, ◌++◌, Option, Some, None, Result}
 use Rattle.std.specs.Prelude.{⊤, if◌then◌else◌}
 use Rattle.ceu_base.specs.declared.kinds.Rule.{Rule}
 use Rattle.ceu_base.specs.declared.kinds.Ty.{Ty}
@@ -28,21 +28,18 @@ use Rattle.ceu_tree.specs.declared.source.Arm.{Arm, Arm'}
 use Rattle.ceu_tree.specs.declared.source.Range.{Range, Range'}
 use Rattle.ceu_tree.specs.declared.source.Stmt as stmt
 use Rattle.ceu_tree.specs.declared.source.Stmt.{Stmt, Vars', If', Par', Row_of-Item, end_of-Item, more_of-Item, Row_of-Arm, end_of-Arm, more_of-Arm, Row_of-Block, end_of-Block, more_of-Block, Held-Stmt-If-1, Stmt-If-1-None', Stmt-If-1-Some'}
-use Rattle.ceu_tree.specs.declared.source.Tree.{Tree}
 use Rattle.ceu_scopes.specs.declared.known.Known.{Known}
 use Rattle.ceu_scopes.specs.declared.known.Role.TheVariants as role
-use Rattle.ceu_scopes.specs.declared.known.Scopes.{Scopes}
 use Rattle.ceu_scopes.specs.declared.scope.Border.{Border}
 use Rattle.ceu_scopes.specs.declared.scope.Border.TheVariants.{Plain, Async, Body}
 use Rattle.ceu_scopes.specs.declared.walk.Walk.{Walk}
 use Rattle.ceu_scopes.specs.Shown.{added, rest_of}
-use Rattle.ceu_scopes.specs.Walk.{Broken, Step, ◌>>=◌, opened, closed, shown, with_name, fresh}
+use Rattle.ceu_scopes.specs.Walk.{Broken, ◌>>=◌, opened, closed, shown, with_name, fresh}
 use Rattle.ceu_scopes.specs.Rules.{resolved, noted, and_on, used, named, pool_used, alias_used, is_taken, inside_broken, declared, label_broken}
 use Rattle.ceu_scopes.specs.declared.known.Role.{Role}
-use Rattle.ceu_scopes.specs.declared.scope.Scope.{Scope}
 use Rattle.ceu_tree.specs.declared.source.Decl.{Decl}
 use Rattle.ceu_base.specs.declared.kinds.Rule.TheVariants.{N2}
-use Rattle.ceu_scopes.specs.Names.{node_walked, operand_walked, exp_walked, exps_walked, if_exp_walked, call_walked, spawned, spawn_walked, if_spawn_walked, target_walked, await_walked, ident_declared, port_declared, param_declared, pool_declared, start_broken, alias_declared, pool_walked, alias_walked, value_broken, params_opened, labelled, unlabelled, escape_walked, name_listed, target_assigned, code_opened, every_walked, stmt_walked, source_walked, value_walked, do_walked, block_walked, arm_walked, last_walked, range_walked, items_walked, arms_walked, blocks_walked, nodes_walked, fresh_walk, gathered, scopes_of}
+use Rattle.ceu_scopes.specs.Names.{node_walked, operand_walked, exp_walked, exps_walked, if_exp_walked, call_walked, spawned, spawn_walked, if_spawn_walked, target_walked, await_walked, ident_declared, port_declared, param_declared, pool_declared, start_broken, alias_declared, pool_walked, alias_walked, value_broken, params_opened, labelled, unlabelled, escape_walked, name_listed, target_assigned, code_opened, every_walked, stmt_walked, source_walked, value_walked, do_walked, block_walked, arm_walked, last_walked, range_walked, items_walked, arms_walked, blocks_walked, nodes_walked}
 use Rattle.ceu_proper.proofs.Steps.{Always, always_ok, always_checked, always_then, always_each}
 
 -- a fact on walks with so many open blocks, which each step keeps

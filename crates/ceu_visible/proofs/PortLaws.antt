@@ -1,5 +1,5 @@
 -- The inputs and outputs of a program differ, and have the names that its text gives them.
-use Rattle.std.proofs.Common.{◌≡◌, refl, sym, ap, ◌∙◌, subst, ℕ, suc, ◌≤◌, ◌≢◌, length, arith, List, [], ◌∷◌, ◌++◌, Option, Some, None, Ok, Bool, true, false}
+use Rattle.std.proofs.Common.{◌≡◌, refl, sym, ap, ◌∙◌, subst, ℕ, suc, ◌≢◌, length, arith, List, [], ◌∷◌, ◌++◌, Ok, Bool, true, false}
 use Rattle.std.specs.Prelude.{⊤, IsTrue, not, ◌&&◌, ◌||◌, ◌==◌, is_some}
 use Rattle.std.specs.List.{list_any}
 use Rattle.ceu_base.specs.declared.kinds.Ty.{Ty}
@@ -32,14 +32,13 @@ use Rattle.ceu_expand.specs.Lists.{each}
 use Rattle.ceu_expand.specs.Uses.{used}
 use Rattle.ceu_expand.specs.Expressions.{typed}
 use Rattle.ceu_expand.specs.Parts.{param_declared}
-use Rattle.ceu_expand.specs.Expansion.{declared_in, code_begun, code_around, code_ended, stmt_written, nodes_written, block_written, block_passed, counted, kernel_of}
+use Rattle.ceu_expand.specs.Expansion.{declared_in, code_begun, code_around, code_ended, stmt_written, nodes_written, block_passed, counted, kernel_of}
 use Rattle.ceu_proper.specs.Shaped.{AllOf}
-use Rattle.ceu_proper.proofs.Good.{all_append}
 use Rattle.ceu_proper.proofs.Inside.{append_none, append_assoc}
 use Rattle.ceu_proper.proofs.Steps.{Always, always_ok, always_then, Deep, opened_deep, with_name_length}
 use Rattle.std.proofs.lemmas.Bool.Decides.{Decides-eqb}
 use Rattle.ceu_visible.specs.Ports.{IsExternal, PortsNamed, NodesNamed, BlockNamed, TreeNamed}
-use Rattle.ceu_visible.proofs.Inner.{Inner, InnerInBlock, Outer, OuterNodes, OuterBlock, TreeOuter}
+use Rattle.ceu_visible.proofs.Inner.{InnerInBlock, Outer, OuterNodes, OuterBlock, TreeOuter}
 use Rattle.ceu_visible.proofs.NamesKept as names
 use Rattle.ceu_visible.proofs.DraftKept.{Writes}
 use Rattle.ceu_visible.proofs.DraftKept as drafts

@@ -1,22 +1,21 @@
 -- Names that the outermost block shows stay shown, and a port's name is new there.
-use Rattle.std.proofs.Common.{◌≡◌, refl, sym, ap, ◌∙◌, subst, ℕ, suc, ◌≤◌, length, arith, List, [], ◌∷◌, ◌++◌, Option, Some, None, Result, Ok, Err, Bool, true, false, inl, inr, ◌⊎◌}
-use Rattle.std.specs.Prelude.{⊤, IsTrue, if◌then◌else◌, is_some, bytes_eq}
+use Rattle.std.proofs.Common.{◌≡◌, refl, sym, ap, ◌∙◌, subst, ℕ, suc, ◌≤◌, length, arith, List, [], ◌∷◌, Option, Some, None, Bool, true, false}
+use Rattle.std.specs.Prelude.{if◌then◌else◌, is_some, bytes_eq}
 use Rattle.ceu_base.specs.declared.kinds.Ty.{Ty}
 use Rattle.ceu_base.specs.declared.kinds.Rule.{Rule}
 use Rattle.ceu_base.specs.declared.kinds.Rule.TheVariants.{N2}
 use Rattle.ceu_base.specs.declared.kinds.Pos.{Pos}
 use Rattle.ceu_tree.specs.declared.source.Class.{Class}
 use Rattle.ceu_tree.specs.declared.source.Ident.{Ident}
-use Rattle.ceu_tree.specs.declared.source.Decl.{Decl}
 use Rattle.ceu_scopes.specs.declared.known.Known.{Known}
 use Rattle.ceu_scopes.specs.declared.scope.Border.{Border}
 use Rattle.ceu_scopes.specs.declared.scope.Scope.{Scope}
 use Rattle.ceu_scopes.specs.declared.walk.Walk.{Walk}
 use Rattle.ceu_scopes.specs.Shown.{found, entered, rest_of}
-use Rattle.ceu_scopes.specs.Walk.{Broken, ◌>>=◌, opened, shown, with_name, fresh, outermost, names_of}
+use Rattle.ceu_scopes.specs.Walk.{opened, shown, with_name, fresh, outermost, names_of}
 use Rattle.ceu_scopes.specs.Rules.{checked, is_taken, inside_broken, declared}
 use Rattle.ceu_scopes.specs.Names.{port_declared}
-use Rattle.ceu_proper.proofs.Steps.{Always, always_ok, always_some, always_checked, always_then, Deep, opened_deep, with_name_length}
+use Rattle.ceu_proper.proofs.Steps.{Always, always_ok, always_some, always_checked, always_then, Deep, with_name_length}
 use Rattle.ceu_visible.proofs.NamesKept.{Keeps}
 use Rattle.std.proofs.lemmas.Slice.Eq.{bytes_eq-Decides}
 

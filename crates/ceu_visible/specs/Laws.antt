@@ -7,9 +7,14 @@ use Rattle.ceu_scopes.specs.Names.{scopes_of}
 use Rattle.ceu_types.specs.declared.typing.Types.{Types}
 use Rattle.ceu_expand.specs.Expansion.{kernel_of}
 use Rattle.ceu_visible.specs.Ports.{TreeNamed}
+use Rattle.ceu_visible.specs.Above.{KernelUses}
 
 -- inputs and outputs differ, and have names of external events
 abbrev pub KernelsPorts : Type 0
 KernelsPorts =
     (tree : Tree) (s : Scopes) (t : Types) → scopes_of tree ≡ Ok s → TreeNamed tree →
     let K = kernel_of s t tree in IsTrue (ports_ok (K.inputs ++ K.outputs))
+
+-- the program uses its codes, each code those above it alone
+abbrev pub KernelsAbove : Type 0
+KernelsAbove = (tree : Tree) (s : Scopes) (t : Types) → scopes_of tree ≡ Ok s → KernelUses (kernel_of s t tree)
