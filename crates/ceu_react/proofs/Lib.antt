@@ -10,3 +10,4 @@ pub mod CommandMarks
 pub mod Keeping
 pub mod Timers
 pub mod Advancing
+pub mod Safe

@@ -102,7 +102,7 @@ pub right_on : (image : Image) (n : ℕ) (ms : List Mark) (bytes : List ℕ) (t 
 right_on image n ms bytes t e h = right_round image n (plain bytes) (kept_on image n ms bytes t e h)
 
 -- one round on
-one_on : (image : Image) (n : ℕ) (bytes bytes' : List ℕ) (x : Round) → round image (plain bytes) ≡ x → RoundIs x None bytes' → IsKept (reaction image n (plain bytes)) → reaction image n (plain bytes) ≡ marked_config (marks_of_round x) (reaction image n (plain bytes'))
+pub one_on : (image : Image) (n : ℕ) (bytes bytes' : List ℕ) (x : Round) → round image (plain bytes) ≡ x → RoundIs x None bytes' → IsKept (reaction image n (plain bytes)) → reaction image n (plain bytes) ≡ marked_config (marks_of_round x) (reaction image n (plain bytes'))
 one_on image n bytes bytes' (Over c) e h k = absurd h
 one_on image n bytes bytes' (Goes j) e h k =
     stays image n (plain bytes) j e k ∙ ap (λ (m : Machine). reaction image n m) (as_marked j) ∙ reaction_marked image n j.marks (plain j.bytes)

@@ -109,3 +109,8 @@ agrees image mem e (Some time) (Some other) n s t =
 
 pub least_is : (image : Image) (mem : Space) (r : Option ℕ) → IsMachine image mem → IfNone r (timers.NoTimer mem image.gates) → IfSome r (λ time. timers.IsLeast mem image.gates time) → r ≡ least_time image mem.bytes
 least_is image mem r made n s = agrees image mem made.gates r (least_time image mem.bytes) n s (tells image mem.bytes 0 image.gates)
+
+-- ---- the memory is still one of the image
+
+pub passed_kept : (image : Image) (old new : Space) (n d : ℕ) → IsMachine image old → timers.TimePassed old new n d → IsMachine image new
+passed_kept image old new n d made p = record { gates = p.place ∙ made.gates; fits = record { size = p.size ∙ made.fits.size; memory = made.fits.memory; code = made.fits.code } }

@@ -16,8 +16,6 @@ const LONGEST_DELAY: u64 = 2147483647;
 pub(crate) enum Change {
     /// Those that wait for an input wake with a value.
     Input(u16, u64),
-    /// Timers have so many microseconds less left.
-    Passing(u64),
     /// Timers that are due wake with the delay.
     Due(u64),
     /// Asyncs that were served are to be served again.
@@ -29,7 +27,6 @@ fn affects(change: Change, gate: Gate) -> bool
 {
     match change {
         Change::Input(event, _) => gate.kind == 2 && gate.key == event,
-        Change::Passing(_) => gate.kind == 3,
         Change::Due(_) => gate.kind == 3 && gate.value == 0,
         Change::Round => gate.kind == 7,
     }
@@ -43,10 +40,6 @@ fn changed(change: Change, gate: Gate) -> Gate
             kind: 1,
             level: 0,
             value,
-            ..gate
-        },
-        Change::Passing(d) => Gate {
-            value: gate.value.saturating_sub(d),
             ..gate
         },
         Change::Due(delay) => Gate {

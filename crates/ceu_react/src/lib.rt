@@ -6,9 +6,11 @@ mod changes;
 mod clock;
 mod closing;
 mod commands;
+mod laws;
 mod reacting;
 mod rounds;
 mod session;
 
 pub use after::{After, State};
+pub use laws::{more_turns_change_nothing, next_turn_is_allowed, safe_is_kept};
 pub use session::{NewError, Session};

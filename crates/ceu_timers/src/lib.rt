@@ -2,6 +2,8 @@
 #![tactic(auto)]
 
 ghost use Rattle.std.specs.Prelude.{◌≡◌, ◌≤◌, ◌<◌, ℕ, IfNone, IfSome};
+ghost use Rattle.ceu_isa.specs.Commands.{is_timer, sooner};
+ghost use Rattle.ceu_isa.specs.Layout.{each_gate};
 ghost use Rattle.ceu_timers.specs.Timers as spec;
 ghost use Rattle.ceu_timers.specs.Timers.{IsMemoryOf, NoTimer, IsLeast, AtMostLeast, TimePassed};
 
@@ -40,11 +42,12 @@ fn lesser(found: Option<u64>, gate: Gate) -> Option<u64>
     }
 }
 
-/// Subtracts a time from what remains of each timer. It is at most the least.
+/// Subtracts a time from what remains of each timer. It is at most the least. The bytes afterwards are the machine's, d microseconds later.
 pub fn subtract_all(mem: &mut Memory, image: &Image, d: u64)
     requires made { IsMemoryOf mem.old image.now }
     requires short { AtMostLeast mem.old image.now.gates d }
-    ensures { TimePassed mem.old mem.new image.now.gates d }
+    ensures passed { TimePassed mem.old mem.new image.now.gates d }
+    ensures bytes { mem.new.bytes ≡ each_gate image.now is_timer (sooner d) image.now.gates mem.old.bytes }
 {
     for g in 0..image.gates {
         let gate = mem.gate(g);
