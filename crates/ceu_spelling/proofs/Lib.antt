@@ -1,14 +1,7 @@
 pub mod Words
 pub mod Numbers
 pub mod Times
-pub mod Scanning
+pub mod PrintedTimes
 pub mod Names
-pub mod Printing
-pub mod Keywords
-pub mod Symbols
-pub mod Leaves
-pub mod Expressions
-pub mod Parts
-pub mod Statements
-pub mod Spelling
-pub mod Again
+pub mod Scanning
+pub mod Tokens

@@ -17,7 +17,8 @@ use Rattle.ceu_lex.specs.declared.token.TokenKind.TheVariants.{Reserved, Lower, 
 use Rattle.ceu_lex.specs.Bytes.{is_word_byte}
 use Rattle.ceu_lex.specs.Tables.{Text, symbols, units}
 use Rattle.ceu_lex.specs.Lexemes.{Lexeme, word_len, reserved, kind_of_word, word, underscore, value, all_digits, is_hex, within_u64, literal, time, time_limit, Groups, of_groups, after_groups, with_len, number, symbol_in, symbol, lexeme}
-use Rattle.ceu_spelling.proofs.Words.{Ends, word_of, lexeme_word}
+use Rattle.ceu_spelling.specs.Words.{Ends, IsName}
+use Rattle.ceu_spelling.proofs.Words.{word_of, lexeme_word}
 
 pick : {A : Type 0} (c : Bool) (p q r : A) → cond c p q ≡ r → ((c ≡ true) × (p ≡ r)) ⊎ ((c ≡ false) × (q ≡ r))
 pick true p q r e = inl (refl, e)
@@ -129,12 +130,6 @@ front_of text k n is =
     ]
 
 -- ---- names
-
-abbrev pub IsName : TokenKind → Type 0
-IsName Lower = Unit {0}
-IsName Ext = Unit {0}
-IsName Abs = Unit {0}
-IsName _ = ⊥
 
 never_numeric : (k : TokenKind) → IsName k → Numeric k → ⊥
 never_numeric (Number n) name is = name

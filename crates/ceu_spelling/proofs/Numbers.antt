@@ -11,7 +11,8 @@ use Rattle.ceu_lex.specs.Bytes.{is_word_byte}
 use Rattle.ceu_lex.specs.Lexemes.{digit, value, all_digits, within_u64, literal, is_hex, time, with_len, lexeme}
 use Rattle.ceu_lex.specs.declared.token.TokenKind.TheVariants.{Number}
 use Rattle.ceu_base.specs.declared.kinds.Rule.TheVariants.{L3}
-use Rattle.ceu_spelling.proofs.Words.{Ends, lexeme_number}
+use Rattle.ceu_spelling.specs.Words.{Ends}
+use Rattle.ceu_spelling.proofs.Words.{lexeme_number}
 
 value_more : (base high b : ℕ) (bytes : List ℕ) → value base high (b ∷ bytes) ≡ value base (high * base + digit b) bytes
 unfolding value

@@ -15,7 +15,8 @@ use Rattle.ceu_lex.specs.Tables.{Text, units}
 use Rattle.ceu_lex.specs.Lexemes.{value, all_digits, all_hex_digits, within_u64, literal, is_hex, time, of_groups, time_limit, Groups, letters_after, digits_len, has_group, after_group, after_groups, with_len, lexeme}
 use Rattle.ceu_lex.specs.declared.token.TokenKind.TheVariants.{Time}
 use Rattle.ceu_base.specs.declared.kinds.Rule.TheVariants.{L4}
-use Rattle.ceu_spelling.proofs.Words.{Ends, run_len, run_text, lexeme_number}
+use Rattle.ceu_spelling.specs.Words.{Ends}
+use Rattle.ceu_spelling.proofs.Words.{run_len, run_text, lexeme_number}
 use Rattle.ceu_spelling.proofs.Numbers.{decimal_is, digits_word, first_digit}
 
 -- a unit with its microseconds, and how many of it

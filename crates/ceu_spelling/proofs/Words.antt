@@ -6,15 +6,12 @@ use Rattle.std.specs.Char.{is_ascii_alphabetic, is_ascii_digit}
 use Rattle.std.proofs.Math.Seq.{take-append_seam}
 use Rattle.std.proofs.lemmas.Bool.{and_parts}
 use Rattle.std.proofs.lemmas.Bool.Decides.{nat_tests}
+use Rattle.ceu_spelling.specs.Words.{Ends}
 use Rattle.ceu_lex.specs.Bytes.{is_word_byte}
 use Rattle.ceu_lex.specs.Tables.{Text}
 use Rattle.ceu_lex.specs.Lexemes.{Lexeme, word_len, reserved, kind_of_word, word, underscore, literal, with_len, number, symbol, lexeme}
 use Rattle.ceu_base.specs.declared.kinds.Rule.TheVariants.{L1, L5}
 use Rattle.ceu_lex.specs.declared.token.TokenKind.TheVariants.{Under}
-
--- The text goes on with no letter, digit or `_`.
-abbrev pub Ends : List ℕ → Type 0
-Ends rest = is_word_byte (slice_index rest 0) ≡ false
 
 one_more : (n : ℕ) → 1 + n ≡ suc n
 one_more n = omega arith

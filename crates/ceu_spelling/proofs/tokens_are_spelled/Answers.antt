@@ -1,4 +1,4 @@
-use Rattle.ceu_spelling.proofs.Spelling.{tokens_spelled}
+use Rattle.ceu_spelling.proofs.Tokens.{tokens_spelled}
 use Rattle.ceu_spelling.proofs.tokens_are_spelled.Goals as goal
 
 pub returns : goal.returns

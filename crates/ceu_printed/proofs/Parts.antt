@@ -19,12 +19,12 @@ use Rattle.ceu_print.specs.Statements.{names_text, param_text, params_text, labe
 use Rattle.ceu_reading.specs.Words.{outer_kinds, lower_kinds, abs_kinds, event_kinds, par_kinds}
 use Rattle.ceu_reading.specs.Expressions.{exp_kinds, target_kinds}
 use Rattle.ceu_reading.specs.Statements.{more_lowers, lowers_kinds, more_exts, exts_kinds, param_kinds, more_params, params_kinds, label_kinds, start_kinds, emitted_kinds, left_kinds, answer_kinds, limit_kinds, received_kinds, shared_kinds, ended_kinds}
-use Rattle.ceu_spelling.proofs.Words.{Ends}
-use Rattle.ceu_spelling.proofs.Printing.{Prints, Opens, Follows, oo, op, po, pp, loose, nothing, none_follows, starts, leaf, slash, space, line_break}
-use Rattle.ceu_spelling.proofs.Keywords.{word_outer, word_var, word_code, word_await, word_do, word_loop, word_every, word_watching, word_async, word_par, word_or, word_and, word_type}
-use Rattle.ceu_spelling.proofs.Symbols.{sym_open_paren, sym_close_paren, sym_open_bracket, sym_close_bracket, sym_dot, sym_semicolon, spaced_assign, spaced_arrow}
-use Rattle.ceu_spelling.proofs.Leaves.{lower_leaf, under_leaf, event_leaf, number_leaf}
-use Rattle.ceu_spelling.proofs.Expressions.{ident_prints, lower_prints, ext_prints, abs_prints, comma_space, each_follows, exp_prints, spawn_prints, in_space, target_prints}
+use Rattle.ceu_spelling.specs.Words.{Ends}
+use Rattle.ceu_printed.proofs.Printing.{Prints, Opens, Follows, oo, op, po, pp, loose, nothing, none_follows, starts, leaf, slash, space, line_break}
+use Rattle.ceu_printed.proofs.Keywords.{word_outer, word_var, word_code, word_await, word_do, word_loop, word_every, word_watching, word_async, word_par, word_or, word_and, word_type}
+use Rattle.ceu_printed.proofs.Symbols.{sym_open_paren, sym_close_paren, sym_open_bracket, sym_close_bracket, sym_dot, sym_semicolon, spaced_assign, spaced_arrow}
+use Rattle.ceu_printed.proofs.Leaves.{lower_leaf, under_leaf, event_leaf, number_leaf}
+use Rattle.ceu_printed.proofs.Expressions.{ident_prints, lower_prints, ext_prints, abs_prints, comma_space, each_follows, exp_prints, spawn_prints, in_space, target_prints}
 
 -- ---- lists
 

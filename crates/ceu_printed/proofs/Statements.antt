@@ -27,14 +27,14 @@ use Rattle.ceu_reading.specs.Words.{par_kinds}
 use Rattle.ceu_reading.specs.Expressions.{exp_kinds}
 use Rattle.ceu_reading.specs.Spelled.{AllSpelled}
 use Rattle.ceu_reading.specs.Statements.{ended_kinds, stmt_kinds, source_kinds, value_kinds, do_kinds, body_kinds, block_kinds, arm_kinds, last_kinds, range_kinds, items_kinds, more_items, arms_kinds, more_arms, branches_kinds, more_branches, nodes_kinds, kinds_of}
-use Rattle.ceu_spelling.proofs.Words.{Ends}
+use Rattle.ceu_spelling.specs.Words.{Ends}
 use Rattle.ceu_spelling.proofs.Scanning.{at_end}
-use Rattle.ceu_spelling.proofs.Printing.{Prints, Opens, Follows, Says, oo, op, po, pp, loose, nothing, none_follows, starts, leaf, slash, space, line_break}
-use Rattle.ceu_spelling.proofs.Keywords.{word_nothing, word_break, word_continue, word_var, word_event, word_input, word_output, word_pool, word_emit, word_kill, word_escape, word_do, word_finalize, word_if, word_then, word_else, word_end, word_with, word_type}
-use Rattle.ceu_spelling.proofs.Symbols.{sym_open_bracket, sym_close_bracket, sym_ampersand, sym_question, spaced_assign}
-use Rattle.ceu_spelling.proofs.Leaves.{number_leaf}
-use Rattle.ceu_spelling.proofs.Expressions.{lower_prints, abs_prints, comma_space, each_follows, exp_prints, spawn_prints, await_prints}
-use Rattle.ceu_spelling.proofs.Parts.{lowers_print, exts_print, start_prints, start_follows, emitted_prints, emitted_follows, left_prints, left_follows, answer_prints, answer_follows, event_prints, vars_opens, target_opens, code_prints, do_head_prints, loop_prints, range_prints, every_prints, watching_prints, async_prints, par_prints, end_opens, end_ends}
+use Rattle.ceu_printed.proofs.Printing.{Prints, Opens, Follows, Says, oo, op, po, pp, loose, nothing, none_follows, starts, leaf, slash, space, line_break}
+use Rattle.ceu_printed.proofs.Keywords.{word_nothing, word_break, word_continue, word_var, word_event, word_input, word_output, word_pool, word_emit, word_kill, word_escape, word_do, word_finalize, word_if, word_then, word_else, word_end, word_with, word_type}
+use Rattle.ceu_printed.proofs.Symbols.{sym_open_bracket, sym_close_bracket, sym_ampersand, sym_question, spaced_assign}
+use Rattle.ceu_printed.proofs.Leaves.{number_leaf}
+use Rattle.ceu_printed.proofs.Expressions.{lower_prints, abs_prints, comma_space, each_follows, exp_prints, spawn_prints, await_prints}
+use Rattle.ceu_printed.proofs.Parts.{lowers_print, exts_print, start_prints, start_follows, emitted_prints, emitted_follows, left_prints, left_follows, answer_prints, answer_follows, event_prints, vars_opens, target_opens, code_prints, do_head_prints, loop_prints, range_prints, every_prints, watching_prints, async_prints, par_prints, end_opens, end_ends}
 use denote.Hole.Carrier
 
 -- a text of blanks

@@ -17,7 +17,8 @@ use Rattle.ceu_syntax.specs.declared.terminal.Kind.{Kind}
 use Rattle.ceu_syntax.specs.declared.terminal.Kind.TheVariants as k
 use Rattle.ceu_syntax.specs.Terminals.{kind_of, of_word, of_symbol}
 use Rattle.ceu_reading.specs.Spelled.{IsSpelled, AllSpelled}
-use Rattle.ceu_spelling.proofs.Words.{Ends, word_of, lexeme_word}
+use Rattle.ceu_spelling.specs.Words.{Ends}
+use Rattle.ceu_spelling.proofs.Words.{word_of, lexeme_word}
 use Rattle.ceu_spelling.proofs.Scanning.{Scans, past_blank, past_token, blank, newline, NoGap, word_no_gap, slash_no_gap}
 use Rattle.ceu_spelling.proofs.Names.{letter_word}
 

@@ -1,5 +1,5 @@
--- Tokens of a text are spelled, and a printed text has the tokens of its kinds.
-use Rattle.std.proofs.Common.{◌≡◌, refl, sym, ap, ◌∙◌, subst, ℕ, ◌-◌, ◌≤◌, List, [], ◌∷◌, length, map, take, drop, Ok, arith}
+-- The tokens of a text are spelled.
+use Rattle.std.proofs.Common.{◌≡◌, sym, ap, ◌∙◌, subst, ℕ, ◌-◌, ◌≤◌, List, [], ◌∷◌, length, take, drop, Ok, arith}
 use Rattle.std.proofs.lemmas.List.{length-take-le}
 use Rattle.std.proofs.lemmas.List.Sums.{prefix_len-le-length}
 use Rattle.ceu_lex.specs.Bytes.{is_word_byte}
@@ -14,18 +14,10 @@ use Rattle.ceu_lex.specs.declared.token.Token.{Token}
 use Rattle.ceu_lex.specs.declared.token.TokenKind.{TokenKind}
 use Rattle.ceu_lex.specs.declared.token.TokenKind.TheVariants.{Reserved, Lower, Ext, Abs, Under, Number, Time, Symbol}
 use Rattle.ceu_lex.proofs.Longest.{kept}
-use Rattle.ceu_syntax.specs.declared.terminal.Kind.{Kind}
 use Rattle.ceu_syntax.specs.Terminals.{kind_of, of_word, of_symbol, letters, terminals}
-use Rattle.ceu_tree.specs.declared.source.Tree.{Tree}
-use Rattle.ceu_print.specs.Statements.{program_text}
-use Rattle.ceu_reading.specs.Spelled.{IsSpelled, AllSpelled, TokensSpelled}
-use Rattle.ceu_reading.specs.Statements.{kinds_of}
-use Rattle.ceu_spelling.specs.Kinds.{HasKinds}
-use Rattle.ceu_spelling.proofs.Scanning.{scanned}
-use Rattle.ceu_spelling.proofs.Names.{IsName, front_of, a_word, an_underscore, a_number, a_symbol, name_word, word_kind, word_size_of}
-use Rattle.ceu_spelling.proofs.Statements.{program_says}
-
--- ---- tokens are spelled
+use Rattle.ceu_reading.specs.Spelled.{IsSpelled, TokensSpelled}
+use Rattle.ceu_spelling.specs.Words.{IsName}
+use Rattle.ceu_spelling.proofs.Names.{front_of, a_word, an_underscore, a_number, a_symbol, name_word, word_kind, word_size_of}
 
 word_spelled : (word : Word) → IsSpelled (of_word word)
 word_spelled w.And = tt
@@ -74,15 +66,3 @@ all_spelled text from (token ∷ tokens) to reads = (token_spelled text from tok
 
 pub tokens_spelled : (text : Text) (tokens : List Token) → Reads text tokens → TokensSpelled (terminals text tokens)
 tokens_spelled text tokens reads = all_spelled text 0 tokens reads.0 reads.1
-
--- ---- printed texts
-
-kinds_are : (text : Text) (tokens : List Token) → map (λ t. t.kind) (terminals text tokens) ≡ map (λ t. kind_of t.kind (take (t.end - t.start) (drop t.start text))) tokens
-kinds_are text [] = refl
-kinds_are text (t ∷ tokens) = ap (λ (ks : List Kind). kind_of t.kind (letters text t) ∷ ks) (kinds_are text tokens)
-
-pub printed_kinds : (t : Tree) → AllSpelled (kinds_of t) → HasKinds (program_text t) (kinds_of t)
-printed_kinds t all =
-    let text = program_text t in
-    let s = scanned kind_of text (kinds_of t) (program_says t all).scans in
-    (s.0, s.1, kinds_are text s.0 ∙ s.2)

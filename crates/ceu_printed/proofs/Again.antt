@@ -1,5 +1,5 @@
 -- What is printed of a tree that some tokens derive reads back.
-use Rattle.std.proofs.Common.{◌≡◌, refl, sym, subst, ℕ, List, map}
+use Rattle.std.proofs.Common.{refl, sym, subst, ℕ, List}
 use Rattle.ceu_lex.specs.declared.token.Token.{Token}
 use Rattle.ceu_lex.specs.Texts.{Reads}
 use Rattle.ceu_syntax.specs.Grammar.{Derives, Program}
@@ -9,8 +9,9 @@ use Rattle.ceu_tree.specs.declared.source.Node.{Node}
 use Rattle.ceu_tree.specs.declared.source.Tree.{Tree}
 use Rattle.ceu_print.specs.Statements.{program_text}
 use Rattle.ceu_reading.proofs.Programs.{all_spelled, reads_back}
-use Rattle.ceu_spelling.specs.Again.{ReadsBack}
-use Rattle.ceu_spelling.proofs.Spelling.{tokens_spelled, printed_kinds}
+use Rattle.ceu_printed.specs.Again.{ReadsBack}
+use Rattle.ceu_spelling.proofs.Tokens.{tokens_spelled}
+use Rattle.ceu_printed.proofs.HaveTokens.{printed_kinds}
 
 program_back : (text : List ℕ) (tokens : List Token) (ns : List Node) → Reads text tokens → Program (terminals text tokens) ns → ReadsBack (tree ns)
 program_back text tokens ns reads program =

@@ -1,0 +1,9 @@
+pub mod Printing
+pub mod Keywords
+pub mod Symbols
+pub mod Leaves
+pub mod Expressions
+pub mod Parts
+pub mod Statements
+pub mod HaveTokens
+pub mod Again

@@ -1,0 +1,24 @@
+//! What the printer prints reads back: laws, each the contract of a function with an empty body.
+#![tactic(auto)]
+
+ghost use Rattle.std.specs.Prelude.{ℕ, List};
+ghost use Rattle.ceu_lex.specs.Texts.{Reads};
+ghost use Rattle.ceu_lex.specs.declared.token.Token.{Token};
+ghost use Rattle.ceu_print.specs.Statements.{program_text};
+ghost use Rattle.ceu_printed.specs.Again.{ReadsBack};
+ghost use Rattle.ceu_printed.specs.Kinds.{HasKinds};
+ghost use Rattle.ceu_reading.specs.Spelled.{AllSpelled};
+ghost use Rattle.ceu_reading.specs.Statements.{kinds_of};
+ghost use Rattle.ceu_syntax.specs.Grammar.{Derives};
+ghost use Rattle.ceu_tree.specs.declared.source.Tree.{Tree};
+
+/// The printed text of a tree whose kinds of tokens are spelled has tokens, and just of these kinds.
+pub fn printed_texts_have_tokens()
+    ensures { (t : Tree) → AllSpelled (kinds_of t) → HasKinds (program_text t) (kinds_of t) }
+{}
+
+/// What the printer prints reads back: the printed text of a tree that the tokens of some text derive has tokens, and these derive the
+/// same tree but for positions.
+pub fn printed_text_reads_back()
+    ensures { (text : List ℕ) (tokens : List Token) (t : Tree) → Reads text tokens → Derives text tokens t → ReadsBack t }
+{}

@@ -1,5 +1,0 @@
-use Rattle.ceu_spelling.proofs.Again.{derived_back}
-use Rattle.ceu_spelling.proofs.printed_text_reads_back.Goals as goal
-
-pub returns : goal.returns
-returns c text tokens t reads derived = derived_back text tokens t reads derived
