@@ -6,4 +6,5 @@ pub mod Expressions
 pub mod Parts
 pub mod Statements
 pub mod HaveTokens
+pub mod SameText
 pub mod Again

@@ -190,9 +190,20 @@ unfolding stmt_text
 lines_row end_of-Node m = refl
 lines_row (more_of-Node p s rest) m = ap (λ (ts : List Text). line_text m (stmt_text s m) (ends_in_end s) ∷ ts) (lines_row rest m)
 
+-- the lines of a block without a margin
+abbrev pub rows_text : Block → Text
+rows_text (Block' x list) = all (line_texts list [])
+
+pub program_is : (b : Block) → lines_text [] (out-Block b).list ≡ rows_text b
+unfolding stmt_text out-Block Carrier.out
+program_is (Block' x list) = ap all (ap (map (node_line [])) (items_shown-the_row-Node-3 x list) ∙ sym (lines_row list []))
+
+rows_open : (b : Block) → Opens (rows_text b) (block_kinds b)
+unfolding stmt_kinds
+rows_open (Block' x list) = lines_open list [] nothing
+
 program_opens : (b : Block) → Opens (lines_text [] (out-Block b).list) (block_kinds b)
-unfolding stmt_text stmt_kinds out-Block Carrier.out
-program_opens (Block' x list) = subst (λ ts. Opens (all ts) (nodes_kinds list)) (lines_row list [] ∙ sym (ap (map (node_line [])) (items_shown-the_row-Node-3 x list))) (lines_open list [] nothing)
+program_opens b = subst (λ text. Opens text (block_kinds b)) (sym (program_is b)) (rows_open b)
 
 pub program_says : (t : Tree) → Says (program_text t) (kinds_of t)
 program_says t = subst (λ text. Says text (kinds_of t)) (append-nil (program_text t)) ((program_opens t.body).opens [] [] (λ all. record { scans = at_end; front = refl }))

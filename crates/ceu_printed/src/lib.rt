@@ -1,12 +1,13 @@
 //! What the printer prints reads back: laws, each the contract of a function with an empty body.
 #![tactic(auto)]
 
-ghost use Rattle.std.specs.Prelude.{ℕ, List};
+ghost use Rattle.std.specs.Prelude.{◌≡◌, ℕ, List};
 ghost use Rattle.ceu_lex.specs.Texts.{Reads};
 ghost use Rattle.ceu_lex.specs.declared.token.Token.{Token};
 ghost use Rattle.ceu_print.specs.Statements.{program_text};
 ghost use Rattle.ceu_printed.specs.Again.{ReadsBack};
 ghost use Rattle.ceu_printed.specs.Kinds.{HasKinds};
+ghost use Rattle.ceu_reading.specs.Places.{unplaced};
 ghost use Rattle.ceu_reading.specs.Spelled.{AllSpelled};
 ghost use Rattle.ceu_reading.specs.Statements.{kinds_of};
 ghost use Rattle.ceu_syntax.specs.Grammar.{Derives};
@@ -18,7 +19,10 @@ pub fn printed_texts_have_tokens()
 {}
 
 /// What the printer prints reads back: the printed text of a tree that the tokens of some text derive has tokens, and these derive the
-/// same tree but for positions.
+/// same tree but for positions (`back`). The text has no other tokens, and derives no other tree (`alone`); and what it derives prints
+/// the same text again (`steady`).
 pub fn printed_text_reads_back()
-    ensures { (text : List ℕ) (tokens : List Token) (t : Tree) → Reads text tokens → Derives text tokens t → ReadsBack t }
+    ensures back { (text : List ℕ) (tokens : List Token) (t : Tree) → Reads text tokens → Derives text tokens t → ReadsBack t }
+    ensures alone { (text : List ℕ) (tokens : List Token) (t : Tree) → Reads text tokens → Derives text tokens t → (read : List Token) (u : Tree) → Reads (program_text t) read → Derives (program_text t) read u → unplaced u ≡ unplaced t }
+    ensures steady { (text : List ℕ) (tokens : List Token) (t : Tree) → Reads text tokens → Derives text tokens t → (read : List Token) (u : Tree) → Reads (program_text t) read → Derives (program_text t) read u → program_text u ≡ program_text t }
 {}
