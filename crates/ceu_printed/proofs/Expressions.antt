@@ -21,7 +21,7 @@ use Rattle.ceu_print.specs.Expressions.{tightness, enclosed, node_text, operand_
 use Rattle.ceu_reading.specs.Words.{outer_kinds, lower_kinds, ext_kinds, abs_kinds}
 use Rattle.ceu_reading.specs.Expressions.{node_kinds, operand_kinds, exp_kinds, more_arguments, argument_kinds, call_kinds, spawn_kinds, target_kinds, until_kinds, awaited_kinds}
 use Rattle.ceu_spelling.specs.Words.{Ends}
-use Rattle.ceu_printed.proofs.Printing.{Prints, Opens, Follows, oo, op, po, pp, loose, nothing, none_follows, starts, Leaf, leaf, space}
+use Rattle.ceu_spelling.proofs.Printing.{Prints, Opens, Follows, oo, op, po, pp, loose, nothing, none_follows, starts, Leaf, leaf, space}
 use Rattle.ceu_printed.proofs.Keywords.{word_outer, word_as, word_in, word_spawn, word_until, word_await, word_forever, word_truth, word_type}
 use Rattle.ceu_printed.proofs.Symbols.{sym_open_paren, sym_close_paren, sym_comma, sym_dot, sym_question, prefix_opens, binary_opens, binary_starts}
 use Rattle.ceu_printed.proofs.Leaves.{lower_leaf, ext_leaf, abs_leaf, unit_leaf, number_leaf, time_leaf}

@@ -8,7 +8,7 @@ use Rattle.ceu_lex.specs.Tables.{reserved_words}
 use Rattle.ceu_lex.specs.Lexemes.{reserved}
 use Rattle.ceu_syntax.specs.declared.terminal.Kind.TheVariants as k
 use Rattle.ceu_print.specs.Words.{type_text, truth_text}
-use Rattle.ceu_printed.proofs.Printing.{Leaf, keyword}
+use Rattle.ceu_spelling.proofs.Printing.{Leaf, keyword}
 
 pub word_and : Leaf (codes "and") k.And
 unfolding reserved reserved_words

@@ -18,7 +18,7 @@ use Rattle.ceu_spelling.proofs.Numbers.{decimal_is, digit_word, first_digit, lex
 use Rattle.ceu_spelling.proofs.PrintedTimes.{lexeme_time, time_starts}
 use Rattle.ceu_spelling.specs.Words.{IsName}
 use Rattle.ceu_spelling.proofs.Names.{whole_name, lexeme_name, letter_word}
-use Rattle.ceu_printed.proofs.Printing.{Leaf}
+use Rattle.ceu_spelling.proofs.Printing.{Leaf}
 
 -- ---- names
 

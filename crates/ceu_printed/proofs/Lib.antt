@@ -1,4 +1,3 @@
-pub mod Printing
 pub mod Keywords
 pub mod Symbols
 pub mod Leaves

@@ -20,7 +20,7 @@ use Rattle.ceu_reading.specs.Words.{outer_kinds, lower_kinds, abs_kinds, event_k
 use Rattle.ceu_reading.specs.Expressions.{exp_kinds, target_kinds}
 use Rattle.ceu_reading.specs.Statements.{more_lowers, lowers_kinds, more_exts, exts_kinds, param_kinds, more_params, params_kinds, label_kinds, start_kinds, emitted_kinds, left_kinds, answer_kinds, limit_kinds, received_kinds, shared_kinds, ended_kinds}
 use Rattle.ceu_spelling.specs.Words.{Ends}
-use Rattle.ceu_printed.proofs.Printing.{Prints, Opens, Follows, oo, op, po, pp, loose, nothing, none_follows, starts, leaf, slash, space, line_break}
+use Rattle.ceu_spelling.proofs.Printing.{Prints, Opens, Follows, oo, op, po, pp, loose, nothing, none_follows, starts, leaf, slash, space, line_break}
 use Rattle.ceu_printed.proofs.Keywords.{word_outer, word_var, word_code, word_await, word_do, word_loop, word_every, word_watching, word_async, word_par, word_or, word_and, word_type}
 use Rattle.ceu_printed.proofs.Symbols.{sym_open_paren, sym_close_paren, sym_open_bracket, sym_close_bracket, sym_dot, sym_semicolon, spaced_assign, spaced_arrow}
 use Rattle.ceu_printed.proofs.Leaves.{lower_leaf, under_leaf, event_leaf, number_leaf}

@@ -29,7 +29,7 @@ use Rattle.ceu_reading.specs.Spelled.{AllSpelled}
 use Rattle.ceu_reading.specs.Statements.{ended_kinds, stmt_kinds, source_kinds, value_kinds, do_kinds, body_kinds, block_kinds, arm_kinds, last_kinds, range_kinds, items_kinds, more_items, arms_kinds, more_arms, branches_kinds, more_branches, nodes_kinds, kinds_of}
 use Rattle.ceu_spelling.specs.Words.{Ends}
 use Rattle.ceu_spelling.proofs.Scanning.{at_end}
-use Rattle.ceu_printed.proofs.Printing.{Prints, Opens, Follows, Says, oo, op, po, pp, loose, nothing, none_follows, starts, leaf, slash, space, line_break}
+use Rattle.ceu_spelling.proofs.Printing.{Prints, Opens, Follows, Says, oo, op, po, pp, loose, nothing, none_follows, starts, leaf, slash, space, line_break}
 use Rattle.ceu_printed.proofs.Keywords.{word_nothing, word_break, word_continue, word_var, word_event, word_input, word_output, word_pool, word_emit, word_kill, word_escape, word_do, word_finalize, word_if, word_then, word_else, word_end, word_with, word_type}
 use Rattle.ceu_printed.proofs.Symbols.{sym_open_bracket, sym_close_bracket, sym_ampersand, sym_question, spaced_assign}
 use Rattle.ceu_printed.proofs.Leaves.{number_leaf}

@@ -15,7 +15,7 @@ use Rattle.ceu_syntax.specs.declared.terminal.Kind.TheVariants as k
 use Rattle.ceu_print.specs.Words.{prefix_text, binary_text}
 use Rattle.ceu_reading.specs.Words.{prefix_kind, binary_kind}
 use Rattle.ceu_spelling.proofs.Scanning.{past_token}
-use Rattle.ceu_printed.proofs.Printing.{Opens, po, oo, leaf, space, symbol_opens, symbol_between}
+use Rattle.ceu_spelling.proofs.Printing.{Opens, po, oo, leaf, space, symbol_opens, symbol_between}
 use Rattle.ceu_printed.proofs.Keywords.{word_or, word_and, word_not}
 
 -- ---- that stand alone

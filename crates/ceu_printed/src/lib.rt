@@ -13,9 +13,11 @@ ghost use Rattle.ceu_reading.specs.Statements.{kinds_of};
 ghost use Rattle.ceu_syntax.specs.Grammar.{Derives};
 ghost use Rattle.ceu_tree.specs.declared.source.Tree.{Tree};
 
-/// The printed text of a tree whose kinds of tokens are spelled has tokens, and just of these kinds.
+/// The printed text of a tree whose kinds of tokens are spelled has tokens, and just of these kinds; so it has where the tokens of
+/// some text derive the tree.
 pub fn printed_texts_have_tokens()
-    ensures { (t : Tree) → AllSpelled (kinds_of t) → HasKinds (program_text t) (kinds_of t) }
+    ensures spelled { (t : Tree) → AllSpelled (kinds_of t) → HasKinds (program_text t) (kinds_of t) }
+    ensures derived { (text : List ℕ) (tokens : List Token) (t : Tree) → Reads text tokens → Derives text tokens t → HasKinds (program_text t) (kinds_of t) }
 {}
 
 /// What the printer prints reads back: the printed text of a tree that the tokens of some text derive has tokens, and these derive the

@@ -4,4 +4,5 @@ pub mod Times
 pub mod PrintedTimes
 pub mod Names
 pub mod Scanning
+pub mod Printing
 pub mod Tokens

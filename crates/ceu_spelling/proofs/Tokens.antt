@@ -14,8 +14,12 @@ use Rattle.ceu_lex.specs.declared.token.Token.{Token}
 use Rattle.ceu_lex.specs.declared.token.TokenKind.{TokenKind}
 use Rattle.ceu_lex.specs.declared.token.TokenKind.TheVariants.{Reserved, Lower, Ext, Abs, Under, Number, Time, Symbol}
 use Rattle.ceu_lex.proofs.Longest.{kept}
+use Rattle.ceu_syntax.specs.Grammar.{Derives}
 use Rattle.ceu_syntax.specs.Terminals.{kind_of, of_word, of_symbol, letters, terminals}
-use Rattle.ceu_reading.specs.Spelled.{IsSpelled, TokensSpelled}
+use Rattle.ceu_tree.specs.declared.source.Tree.{Tree}
+use Rattle.ceu_reading.specs.Statements.{kinds_of}
+use Rattle.ceu_reading.proofs.Programs as programs
+use Rattle.ceu_reading.specs.Spelled.{IsSpelled, AllSpelled, TokensSpelled}
 use Rattle.ceu_spelling.specs.Words.{IsName}
 use Rattle.ceu_spelling.proofs.Names.{front_of, a_word, an_underscore, a_number, a_symbol, name_word, word_kind, word_size_of}
 
@@ -66,3 +70,7 @@ all_spelled text from (token ∷ tokens) to reads = (token_spelled text from tok
 
 pub tokens_spelled : (text : Text) (tokens : List Token) → Reads text tokens → TokensSpelled (terminals text tokens)
 tokens_spelled text tokens reads = all_spelled text 0 tokens reads.0 reads.1
+
+pub derived_spelled : (text : List ℕ) (tokens : List Token) (t : Tree) → Reads text tokens → Derives text tokens t → AllSpelled (kinds_of t)
+derived_spelled text tokens t reads derived =
+    subst (λ u. AllSpelled (kinds_of u)) (sym derived.2) (programs.all_spelled (terminals text tokens) derived.0 derived.1 (tokens_spelled text tokens reads))

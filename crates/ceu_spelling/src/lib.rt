@@ -9,13 +9,21 @@ ghost use Rattle.ceu_lex.specs.declared.token.Token.{Token};
 ghost use Rattle.ceu_lex.specs.declared.token.TokenKind.{TokenKind};
 ghost use Rattle.ceu_lex.specs.declared.token.TokenKind.TheVariants.{Number, Time};
 ghost use Rattle.ceu_print.specs.Words.{time_text};
-ghost use Rattle.ceu_reading.specs.Spelled.{TokensSpelled};
+ghost use Rattle.ceu_reading.specs.Spelled.{AllSpelled, TokensSpelled};
+ghost use Rattle.ceu_reading.specs.Statements.{kinds_of};
 ghost use Rattle.ceu_spelling.specs.Words.{Ends, IsName};
+ghost use Rattle.ceu_syntax.specs.Grammar.{Derives};
 ghost use Rattle.ceu_syntax.specs.Terminals.{terminals};
+ghost use Rattle.ceu_tree.specs.declared.source.Tree.{Tree};
 
 /// The tokens of a text are spelled: a name by itself is a token of its class, and numbers and times are within their limits.
 pub fn tokens_are_spelled()
     ensures { (text : List ℕ) (tokens : List Token) → Reads text tokens → TokensSpelled (terminals text tokens) }
+{}
+
+/// So are the names, numbers and times of a tree that the tokens of some text derive.
+pub fn derived_trees_are_spelled()
+    ensures { (text : List ℕ) (tokens : List Token) (t : Tree) → Reads text tokens → Derives text tokens t → AllSpelled (kinds_of t) }
 {}
 
 /// Before anything but a letter, a digit or `_` stands what is printed of a name, a number or a time as one token of its kind.

@@ -1,5 +1,9 @@
+use Rattle.ceu_spelling.proofs.Tokens.{derived_spelled}
 use Rattle.ceu_printed.proofs.HaveTokens.{printed_kinds}
 use Rattle.ceu_printed.proofs.printed_texts_have_tokens.Goals as goal
 
 pub returns : goal.returns
-returns c t all = printed_kinds t all
+returns c = record {
+  spelled = printed_kinds;
+  derived = λ text tokens t reads derived. printed_kinds t (derived_spelled text tokens t reads derived);
+}
