@@ -13,6 +13,7 @@ ghost use Rattle.ceu_bound.specs.PhaseB.{AreBounds, IsBoundRefusal, KeepsLoopRul
 ghost use Rattle.ceu_bound.specs.Verdict.{IsFirstOf};
 
 use crate::codes::{enter_codes, stay_codes};
+use crate::cycles::cycle_numbers;
 use crate::emissions::{Wake, all_wakes};
 use crate::graph::{Arrow, never_rises};
 use crate::instances::instances;
@@ -132,7 +133,8 @@ fn find_emissions(alloc: Global, kernel: &Kernel) -> Result<Emissions<'_>, Alloc
     })
 }
 
-// Numbers of the events that don't rise along an arrow: those of the order, and none where these would.
+// Numbers of the events that don't rise along an arrow: those of the order, or by cycles where some event isn't taken away; none where these
+// would rise.
 fn numbers(
     alloc: Global,
     arrows: &[Arrow],
@@ -141,7 +143,11 @@ fn numbers(
 ) -> Result<Vec<usize>, AllocError>
     ensures { IfOk result (λ numbers. NeverRises numbers.items arrows.now) }
 {
-    let numbers = numbered(alloc, order, events)?;
+    let numbers = if order.len() == events {
+        numbered(alloc, order, events)?
+    } else {
+        cycle_numbers(alloc, arrows, events)?
+    };
     if never_rises(&numbers, arrows) {
         return Ok(numbers);
     }

@@ -4,6 +4,7 @@
 mod bounds;
 mod cells;
 mod codes;
+mod cycles;
 mod emissions;
 mod graph;
 mod instances;

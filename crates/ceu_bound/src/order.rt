@@ -10,7 +10,8 @@ struct Taking {
     degrees: Vec<usize>,
 }
 
-fn turned(alloc: Global, arrows: &[Arrow]) -> Result<Vec<Arrow>, AllocError> {
+/// The arrows the other way round.
+pub fn turned(alloc: Global, arrows: &[Arrow]) -> Result<Vec<Arrow>, AllocError> {
     let mut back = Vec::new(alloc);
     for arrow in arrows {
         back.push(Arrow {

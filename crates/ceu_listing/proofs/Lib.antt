@@ -1,4 +1,3 @@
-pub mod Written
 pub mod RowLaws
 pub mod Texts
 pub mod Numbers

@@ -1,14 +1,10 @@
 -- The lines of a listing. The form of these lines is this project's own.
 use Rattle.std.specs.Prelude.{ℕ, List, [], ◌∷◌, ◌++◌, codes, decimal, slice_index}
-use Rattle.ceu_base.specs.declared.kinds.Pos.{Pos}
+use Rattle.ceu_lines.specs.Place.{at_place}
 use Rattle.ceu_gates.specs.declared.plan.GatePlan.{GatePlan}
 use Rattle.ceu_slots.specs.Plans.{Planned}
 use Rattle.ceu_tree.specs.declared.kernel.Kernel.{Kernel}
 use Rattle.ceu_listing.specs.Rows.{Row, SlotRow, GateRow, CodeRow, kernel_rows}
-
--- a blank, the place and the newline
-abbrev pub at_place : Pos → List ℕ
-at_place p = 32 ∷ [] ++ decimal p.line ++ 58 ∷ [] ++ decimal p.col ++ 10 ∷ []
 
 abbrev pub slot_head : (offset size : ℕ) → List ℕ
 slot_head offset size = codes "slot " ++ decimal offset ++ 32 ∷ [] ++ decimal size ++ 32 ∷ []

@@ -3,6 +3,5 @@
 
 mod lines;
 mod parts;
-mod printing;
 
 pub use parts::listing;

@@ -1,13 +1,14 @@
 // The lines of a listing.
 ghost use Rattle.std.specs.Prelude.{◌≡◌, ◌<◌, ◌≤◌, ◌+◌, ◌++◌, codes, decimal, length, slice_index};
+ghost use Rattle.ceu_lines.specs.Place.{at_place};
 ghost use Rattle.ceu_listing.specs.Lines as spec;
-ghost use Rattle.ceu_listing.specs.Prints.{Prints};
+ghost use Rattle.ceu_lines.specs.Prints.{Prints};
 ghost use Rattle.ceu_listing.specs.Rows.{CodeRow};
 
-use crate::printing::{Line, offer, offer_named, push, push_number, push_place};
 use ceu_base::Pos;
 use ceu_gates::GatePlan;
 use ceu_io::Sink;
+use ceu_lines::{Line, offer, offer_named, push, push_number, push_place};
 use ceu_slots::Places;
 
 fn entry(table: &[u16], at: u32) -> u16
@@ -31,7 +32,7 @@ fn slot_head(offset: u16, size: u16) -> Line
 }
 
 fn place_tail(place: Pos) -> Line
-    ensures items { result.items ≡ spec.at_place place }
+    ensures items { result.items ≡ at_place place }
     ensures size { length result.items ≤ 83 }
 {
     let mut line = Line::new();
@@ -70,7 +71,7 @@ pub fn slot_line<P: Places, O: Sink>(
     out: &mut O,
 ) -> bool
     requires { slot < (P.planned places.now).slot_count }
-    ensures { Prints (spec.slot_head ((P.planned places.now).offset slot) ((P.planned places.now).size slot) ++ (name.now ++ spec.at_place place)) going result (O.held out.old) (O.held out.new) (O.faults out.old) (O.faults out.new) }
+    ensures { Prints (spec.slot_head ((P.planned places.now).offset slot) ((P.planned places.now).size slot) ++ (name.now ++ at_place place)) going result (O.held out.old) (O.held out.new) (O.faults out.old) (O.faults out.new) }
 {
     let head = slot_head(places.offset(slot), places.size(slot));
     let tail = place_tail(place);
@@ -78,7 +79,7 @@ pub fn slot_line<P: Places, O: Sink>(
 }
 
 pub fn gate_line<O: Sink>(gates: &GatePlan, node: u32, place: Pos, going: bool, out: &mut O) -> bool
-    ensures { Prints (codes "gate " ++ decimal (slice_index gates.now.first node) ++ spec.at_place place) going result (O.held out.old) (O.held out.new) (O.faults out.old) (O.faults out.new) }
+    ensures { Prints (codes "gate " ++ decimal (slice_index gates.now.first node) ++ at_place place) going result (O.held out.old) (O.held out.new) (O.faults out.old) (O.faults out.new) }
 {
     let mut line = Line::new();
     push(&mut line, b"gate ");

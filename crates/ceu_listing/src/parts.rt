@@ -6,7 +6,7 @@ ghost use Rattle.ceu_tree.specs.Numbering.{par_slots, range_of};
 ghost use Rattle.ceu_tree.specs.Proper.{Proper};
 ghost use Rattle.ceu_listing.specs.Lines as spec;
 ghost use Rattle.ceu_listing.specs.Lines.{text, listing_text};
-ghost use Rattle.ceu_listing.specs.Prints.{Prints};
+ghost use Rattle.ceu_lines.specs.Prints.{Prints};
 ghost use Rattle.ceu_listing.specs.Rows as rows;
 ghost use Rattle.ceu_listing.specs.Rows.{AreNumbered};
 
@@ -17,7 +17,7 @@ use ceu_io::{Failed, Sink};
 use ceu_slots::Places;
 use ceu_tree::{KArm, KBlock, KCode, KDecl, KLoop, KNode, KStmt, Kernel, ParKind};
 
-#[tactic(auto, using(crate::proofs::RowLaws::shown, ceu_tree::proofs::Sizes::sizes, crate::proofs::Texts::texts, crate::proofs::Written::prints))]
+#[tactic(auto, using(crate::proofs::RowLaws::shown, ceu_tree::proofs::Sizes::sizes, crate::proofs::Texts::texts, ceu_lines::proofs::Written::prints))]
 fn print_slot<P: Places, O: Sink>(
     places: &P,
     gates: &GatePlan,
@@ -33,7 +33,7 @@ fn print_slot<P: Places, O: Sink>(
     slot_line(places, slot, name, place, going, out)
 }
 
-#[tactic(auto, using(crate::proofs::RowLaws::shown, ceu_tree::proofs::Sizes::sizes, crate::proofs::Texts::texts, crate::proofs::Written::prints))]
+#[tactic(auto, using(crate::proofs::RowLaws::shown, ceu_tree::proofs::Sizes::sizes, crate::proofs::Texts::texts, ceu_lines::proofs::Written::prints))]
 fn print_gate<P: Places, O: Sink>(
     places: &P,
     gates: &GatePlan,
@@ -48,7 +48,7 @@ fn print_gate<P: Places, O: Sink>(
     gate_line(gates, node, place, going, out)
 }
 
-#[tactic(auto, using(crate::proofs::RowLaws::shown, ceu_tree::proofs::Sizes::sizes, crate::proofs::Texts::texts, crate::proofs::Written::prints))]
+#[tactic(auto, using(crate::proofs::RowLaws::shown, ceu_tree::proofs::Sizes::sizes, crate::proofs::Texts::texts, ceu_lines::proofs::Written::prints))]
 fn print_decls<P: Places, O: Sink>(
     places: &P,
     gates: &GatePlan,
@@ -67,7 +67,7 @@ fn print_decls<P: Places, O: Sink>(
     goes
 }
 
-#[tactic(auto, using(crate::proofs::RowLaws::shown, ceu_tree::proofs::Sizes::sizes, crate::proofs::Texts::texts, crate::proofs::Written::prints))]
+#[tactic(auto, using(crate::proofs::RowLaws::shown, ceu_tree::proofs::Sizes::sizes, crate::proofs::Texts::texts, ceu_lines::proofs::Written::prints))]
 fn print_turns<P: Places, O: Sink>(
     places: &P,
     gates: &GatePlan,
@@ -90,7 +90,7 @@ fn print_turns<P: Places, O: Sink>(
     }
 }
 
-#[tactic(auto, using(crate::proofs::RowLaws::shown, ceu_tree::proofs::Sizes::sizes, crate::proofs::Texts::texts, crate::proofs::Written::prints))]
+#[tactic(auto, using(crate::proofs::RowLaws::shown, ceu_tree::proofs::Sizes::sizes, crate::proofs::Texts::texts, ceu_lines::proofs::Written::prints))]
 fn print_bytes<P: Places, O: Sink>(
     places: &P,
     gates: &GatePlan,
@@ -110,7 +110,7 @@ fn print_bytes<P: Places, O: Sink>(
     goes
 }
 
-#[tactic(auto, using(crate::proofs::RowLaws::shown, ceu_tree::proofs::Sizes::sizes, crate::proofs::Texts::texts, crate::proofs::Written::prints))]
+#[tactic(auto, using(crate::proofs::RowLaws::shown, ceu_tree::proofs::Sizes::sizes, crate::proofs::Texts::texts, ceu_lines::proofs::Written::prints))]
 fn print_par_bytes<P: Places, O: Sink>(
     places: &P,
     gates: &GatePlan,
@@ -131,7 +131,7 @@ fn print_par_bytes<P: Places, O: Sink>(
 }
 
 #[cycle(listing)]
-#[tactic(auto, using(crate::proofs::RowLaws::shown, ceu_tree::proofs::Sizes::sizes, crate::proofs::Texts::texts, crate::proofs::Written::prints))]
+#[tactic(auto, using(crate::proofs::RowLaws::shown, ceu_tree::proofs::Sizes::sizes, crate::proofs::Texts::texts, ceu_lines::proofs::Written::prints))]
 fn print_stmt<P: Places, O: Sink>(
     places: &P,
     gates: &GatePlan,
@@ -183,7 +183,7 @@ fn print_stmt<P: Places, O: Sink>(
 }
 
 #[cycle(listing)]
-#[tactic(auto, using(crate::proofs::RowLaws::shown, ceu_tree::proofs::Sizes::sizes, crate::proofs::Texts::texts, crate::proofs::Written::prints))]
+#[tactic(auto, using(crate::proofs::RowLaws::shown, ceu_tree::proofs::Sizes::sizes, crate::proofs::Texts::texts, ceu_lines::proofs::Written::prints))]
 fn print_gated<P: Places, O: Sink>(
     places: &P,
     gates: &GatePlan,
@@ -201,7 +201,7 @@ fn print_gated<P: Places, O: Sink>(
 }
 
 #[cycle(listing)]
-#[tactic(auto, using(crate::proofs::RowLaws::shown, ceu_tree::proofs::Sizes::sizes, crate::proofs::Texts::texts, crate::proofs::Written::prints))]
+#[tactic(auto, using(crate::proofs::RowLaws::shown, ceu_tree::proofs::Sizes::sizes, crate::proofs::Texts::texts, ceu_lines::proofs::Written::prints))]
 fn print_if<P: Places, O: Sink>(
     places: &P,
     gates: &GatePlan,
@@ -218,7 +218,7 @@ fn print_if<P: Places, O: Sink>(
 }
 
 #[cycle(listing)]
-#[tactic(auto, using(crate::proofs::RowLaws::shown, ceu_tree::proofs::Sizes::sizes, crate::proofs::Texts::texts, crate::proofs::Written::prints))]
+#[tactic(auto, using(crate::proofs::RowLaws::shown, ceu_tree::proofs::Sizes::sizes, crate::proofs::Texts::texts, ceu_lines::proofs::Written::prints))]
 fn print_loop<P: Places, O: Sink>(
     places: &P,
     gates: &GatePlan,
@@ -236,7 +236,7 @@ fn print_loop<P: Places, O: Sink>(
 }
 
 #[cycle(listing)]
-#[tactic(auto, using(crate::proofs::RowLaws::shown, ceu_tree::proofs::Sizes::sizes, crate::proofs::Texts::texts, crate::proofs::Written::prints))]
+#[tactic(auto, using(crate::proofs::RowLaws::shown, ceu_tree::proofs::Sizes::sizes, crate::proofs::Texts::texts, ceu_lines::proofs::Written::prints))]
 fn print_par<P: Places, O: Sink>(
     places: &P,
     gates: &GatePlan,
@@ -255,7 +255,7 @@ fn print_par<P: Places, O: Sink>(
 }
 
 #[cycle(listing)]
-#[tactic(auto, using(crate::proofs::RowLaws::shown, ceu_tree::proofs::Sizes::sizes, crate::proofs::Texts::texts, crate::proofs::Written::prints))]
+#[tactic(auto, using(crate::proofs::RowLaws::shown, ceu_tree::proofs::Sizes::sizes, crate::proofs::Texts::texts, ceu_lines::proofs::Written::prints))]
 fn print_block<P: Places, O: Sink>(
     places: &P,
     gates: &GatePlan,
@@ -271,7 +271,7 @@ fn print_block<P: Places, O: Sink>(
 }
 
 #[cycle(listing)]
-#[tactic(auto, using(crate::proofs::RowLaws::shown, ceu_tree::proofs::Sizes::sizes, crate::proofs::Texts::texts, crate::proofs::Written::prints))]
+#[tactic(auto, using(crate::proofs::RowLaws::shown, ceu_tree::proofs::Sizes::sizes, crate::proofs::Texts::texts, ceu_lines::proofs::Written::prints))]
 fn print_arm<P: Places, O: Sink>(
     places: &P,
     gates: &GatePlan,
@@ -286,7 +286,7 @@ fn print_arm<P: Places, O: Sink>(
 }
 
 #[cycle(listing)]
-#[tactic(auto, using(crate::proofs::RowLaws::shown, ceu_tree::proofs::Sizes::sizes, crate::proofs::Texts::texts, crate::proofs::Written::prints))]
+#[tactic(auto, using(crate::proofs::RowLaws::shown, ceu_tree::proofs::Sizes::sizes, crate::proofs::Texts::texts, ceu_lines::proofs::Written::prints))]
 fn print_nodes<P: Places, O: Sink>(
     places: &P,
     gates: &GatePlan,
@@ -305,7 +305,7 @@ fn print_nodes<P: Places, O: Sink>(
 }
 
 #[cycle(listing)]
-#[tactic(auto, using(crate::proofs::RowLaws::shown, ceu_tree::proofs::Sizes::sizes, crate::proofs::Texts::texts, crate::proofs::Written::prints))]
+#[tactic(auto, using(crate::proofs::RowLaws::shown, ceu_tree::proofs::Sizes::sizes, crate::proofs::Texts::texts, ceu_lines::proofs::Written::prints))]
 fn print_arms<P: Places, O: Sink>(
     places: &P,
     gates: &GatePlan,
@@ -324,7 +324,7 @@ fn print_arms<P: Places, O: Sink>(
 }
 
 #[cycle(listing)]
-#[tactic(auto, using(crate::proofs::RowLaws::shown, ceu_tree::proofs::Sizes::sizes, crate::proofs::Texts::texts, crate::proofs::Written::prints))]
+#[tactic(auto, using(crate::proofs::RowLaws::shown, ceu_tree::proofs::Sizes::sizes, crate::proofs::Texts::texts, ceu_lines::proofs::Written::prints))]
 fn print_branches<P: Places, O: Sink>(
     places: &P,
     gates: &GatePlan,
@@ -342,7 +342,7 @@ fn print_branches<P: Places, O: Sink>(
     goes
 }
 
-#[tactic(auto, using(crate::proofs::RowLaws::shown, ceu_tree::proofs::Sizes::sizes, crate::proofs::Texts::texts, crate::proofs::Written::prints))]
+#[tactic(auto, using(crate::proofs::RowLaws::shown, ceu_tree::proofs::Sizes::sizes, crate::proofs::Texts::texts, ceu_lines::proofs::Written::prints))]
 fn print_code<P: Places, O: Sink>(
     places: &P,
     gates: &GatePlan,
@@ -360,7 +360,7 @@ fn print_code<P: Places, O: Sink>(
     print_block(places, gates, &code.body, second, out)
 }
 
-#[tactic(auto, using(crate::proofs::RowLaws::shown, ceu_tree::proofs::Sizes::sizes, crate::proofs::Texts::texts, crate::proofs::Written::prints))]
+#[tactic(auto, using(crate::proofs::RowLaws::shown, ceu_tree::proofs::Sizes::sizes, crate::proofs::Texts::texts, ceu_lines::proofs::Written::prints))]
 fn print_codes<P: Places, O: Sink>(
     places: &P,
     gates: &GatePlan,

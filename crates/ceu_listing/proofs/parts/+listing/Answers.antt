@@ -1,7 +1,7 @@
 use Rattle.std.proofs.Common.{◌+◌, ◌<◌, length, drop, rules, arith}
 use Rattle.ceu_listing.specs.Rows as rows
 use Rattle.ceu_listing.specs.Lines.{text}
-use Rattle.ceu_listing.proofs.Written.{printed_more}
+use Rattle.ceu_lines.proofs.Written.{printed_more}
 use Rattle.ceu_listing.proofs.Texts.{text_next, numbered_next, node_smaller, arm_smaller, block_smaller}
 use Rattle.ceu_listing.proofs.parts.+listing.Goals as goal
 

@@ -3,7 +3,7 @@ use Rattle.ceu_tree.proofs.Sizes.{stmt_size, block_size, node_list_size, arm_siz
 use Rattle.ceu_listing.specs.Lines.{text}
 use Rattle.ceu_listing.specs.Rows as rows
 use Rattle.ceu_listing.specs.Rows.{AreNumbered}
-use Rattle.ceu_listing.proofs.Written.{Printed}
+use Rattle.ceu_lines.proofs.Written.{Printed}
 use Rattle.ceu_listing.proofs.parts.+listing.Given as goal
 
 abbrev pub decreases-print_stmt : goal.decreases-print_stmt

@@ -3,9 +3,9 @@ use Rattle.ceu_io.specs.Bytes.{Appends, AppendsProperFront}
 use Rattle.ceu_listing.specs.Rows as rows
 use Rattle.ceu_listing.specs.Rows.{AreNumbered}
 use Rattle.ceu_listing.specs.Lines.{text}
-use Rattle.ceu_listing.specs.Prints.{Prints}
+use Rattle.ceu_lines.specs.Prints.{Prints}
 use Rattle.ceu_listing.proofs.Numbers.{kernel_numbered}
-use Rattle.ceu_listing.proofs.Written.{prints_then}
+use Rattle.ceu_lines.proofs.Written.{prints_then}
 use Rattle.ceu_listing.proofs.Texts.{text_append}
 use Rattle.ceu_listing.proofs.parts.listing.Goals as goal
 

@@ -3,7 +3,7 @@ use Rattle.ceu_tree.specs.Numbering.{range_of}
 use Rattle.ceu_listing.specs.Rows as rows
 use Rattle.ceu_listing.specs.Rows.{AreNumbered, SlotRow}
 use Rattle.ceu_listing.specs.Lines.{text}
-use Rattle.ceu_listing.proofs.Written.{printed_more}
+use Rattle.ceu_lines.proofs.Written.{printed_more}
 use Rattle.ceu_listing.proofs.Texts.{text_append, bytes_step}
 use Rattle.ceu_listing.proofs.parts.print_bytes.Goals as goal
 

@@ -3,7 +3,7 @@ use Rattle.ceu_tree.specs.Numbering.{range_of}
 use Rattle.ceu_listing.specs.Lines.{text}
 use Rattle.ceu_listing.specs.Rows as rows
 use Rattle.ceu_listing.specs.Rows.{AreNumbered}
-use Rattle.ceu_listing.proofs.Written.{Printed}
+use Rattle.ceu_lines.proofs.Written.{Printed}
 use Rattle.ceu_listing.proofs.parts.print_bytes.Given as goal
 
 abbrev pub invariant-loop-k : goal.invariant-loop-k

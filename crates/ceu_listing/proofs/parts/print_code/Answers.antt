@@ -3,8 +3,8 @@ use Rattle.ceu_tree.specs.declared.kernel.KBlock.{out-KBlock}
 use Rattle.ceu_listing.specs.Rows as rows
 use Rattle.ceu_listing.specs.Rows.{CodeRow}
 use Rattle.ceu_listing.specs.Lines.{line, text}
-use Rattle.ceu_listing.specs.Prints.{Prints}
-use Rattle.ceu_listing.proofs.Written.{prints_three}
+use Rattle.ceu_lines.specs.Prints.{Prints}
+use Rattle.ceu_lines.proofs.Written.{prints_three}
 use Rattle.ceu_listing.proofs.Texts.{text_append}
 use Rattle.ceu_listing.proofs.parts.print_code.Goals as goal
 

@@ -2,7 +2,7 @@ use Rattle.std.proofs.Common.{◌+◌, ◌∙◌, drop, ap, subst}
 use Rattle.ceu_listing.specs.Rows as rows
 use Rattle.ceu_listing.specs.Rows.{AreNumbered}
 use Rattle.ceu_listing.specs.Lines.{text}
-use Rattle.ceu_listing.proofs.Written.{printed_more, next_item}
+use Rattle.ceu_lines.proofs.Written.{printed_more, next_item}
 use Rattle.ceu_listing.proofs.Texts.{text_append, numbered_left, numbered_right}
 use Rattle.ceu_listing.proofs.parts.print_codes.Goals as goal
 

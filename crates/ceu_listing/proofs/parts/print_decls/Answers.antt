@@ -2,7 +2,7 @@ use Rattle.std.proofs.Common.{◌+◌, ◌<◌, ◌∙◌, ◌∷◌, [], length
 use Rattle.ceu_listing.specs.Rows as rows
 use Rattle.ceu_listing.specs.Rows.{AreNumbered, SlotRow}
 use Rattle.ceu_listing.specs.Lines.{text}
-use Rattle.ceu_listing.proofs.Written.{printed_more, next_item}
+use Rattle.ceu_lines.proofs.Written.{printed_more, next_item}
 use Rattle.ceu_listing.proofs.Texts.{text_append}
 use Rattle.ceu_listing.proofs.parts.print_decls.Goals as goal
 

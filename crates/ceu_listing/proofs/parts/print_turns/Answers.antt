@@ -1,7 +1,7 @@
 use Rattle.std.proofs.Common.{◌∷◌, [], codes}
 use Rattle.ceu_listing.specs.Rows.{SlotRow}
 use Rattle.ceu_listing.specs.Lines.{text}
-use Rattle.ceu_listing.proofs.Written.{prints_three}
+use Rattle.ceu_lines.proofs.Written.{prints_three}
 use Rattle.ceu_listing.proofs.Texts.{text_three}
 use Rattle.ceu_listing.proofs.parts.print_turns.Goals as goal
 

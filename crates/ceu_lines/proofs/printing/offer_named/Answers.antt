@@ -1,5 +1,5 @@
-use Rattle.ceu_listing.proofs.Written.{prints_three}
-use Rattle.ceu_listing.proofs.printing.offer_named.Goals as goal
+use Rattle.ceu_lines.proofs.Written.{prints_three}
+use Rattle.ceu_lines.proofs.printing.offer_named.Goals as goal
 
 pub returns-else-name-le64 : goal.returns-else-name-le64
 returns-else-name-le64 g c =

@@ -5,7 +5,7 @@ use Rattle.std.proofs.Math.Seq.{take-append-add, drop-cons}
 use Rattle.ceu_io.specs.Bytes.{Appends, AppendsProperFront}
 use Rattle.ceu_io.specs.Counts.{Rose}
 use Rattle.ceu_io.proofs.Offers.{appends_nothing, appends_then}
-use Rattle.ceu_listing.specs.Prints.{Prints}
+use Rattle.ceu_lines.specs.Prints.{Prints}
 
 front_first : (a b : List ℕ) (x y : Option (List ℕ)) → AppendsProperFront a x y → AppendsProperFront (a ++ b) x y
 front_first a b x y (n, less, appends) =

@@ -1,8 +1,8 @@
 // Lines that are built in a buffer and offered as one piece. Each part is told whether all before it was written, and answers whether it was
 // too: after a failure nothing is written.
 ghost use Rattle.std.specs.Prelude.{◌≡◌, ◌≤◌, ◌+◌, ◌++◌, length, decimal};
-ghost use Rattle.ceu_listing.specs.Lines as spec;
-ghost use Rattle.ceu_listing.specs.Prints.{Prints};
+ghost use Rattle.ceu_lines.specs.Place as spec;
+ghost use Rattle.ceu_lines.specs.Prints.{Prints};
 
 use arrayvec::ArrayVec;
 use ceu_base::Pos;
@@ -12,6 +12,7 @@ use itoa::Buffer;
 /// Room for the longest line: a name of 64 bytes and four numbers.
 pub type Line = ArrayVec<u8, 256>;
 
+/// Puts bytes behind a line.
 pub fn push(line: &mut Line, text: &[u8])
     requires { length line.old.items + length text.now ≤ 256 }
     ensures { line.new.items ≡ line.old.items ++ text.now }
@@ -19,6 +20,7 @@ pub fn push(line: &mut Line, text: &[u8])
     line.try_extend_from_slice(text).unwrap();
 }
 
+/// Puts a number in decimal behind a line.
 pub fn push_number(line: &mut Line, n: u32)
     requires { length line.old.items + 40 ≤ 256 }
     ensures items { line.new.items ≡ line.old.items ++ decimal n }
@@ -41,6 +43,7 @@ pub fn push_place(line: &mut Line, place: Pos)
     push(line, b"\n");
 }
 
+/// Offers a text as one piece, unless something before it failed. Answers whether all is written.
 pub fn offer<O: Sink>(bytes: &[u8], going: bool, out: &mut O) -> bool
     ensures { Prints bytes.now going result (O.held out.old) (O.held out.new) (O.faults out.old) (O.faults out.new) }
 {

@@ -1,0 +1,9 @@
+//! The listing of an image.
+#![tactic(auto)]
+
+mod lines;
+mod parts;
+#[cfg(test)]
+mod tests;
+
+pub use parts::show;
