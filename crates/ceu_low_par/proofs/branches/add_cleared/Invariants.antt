@@ -1,0 +1,9 @@
+use Rattle.std.proofs.Common.{◌≡◌, ◌+◌, ◌++◌, drop}
+use Rattle.ceu_shape.specs.Par.{cleared}
+use Rattle.ceu_low_par.specs.Conditions.{nodes_of, planned}
+use Rattle.ceu_low_par.proofs.branches.add_cleared.Given as goal
+
+abbrev pub invariant-loop-k : goal.invariant-loop-k
+invariant-loop-k g l =
+    let plan = planned (g.P.Places.planned l.places) l.gates in
+    record l.initial.sheet { lines = l.initial.sheet.lines ++ cleared plan l.labels l.slot (nodes_of l.branches) } ≡ record l.sheet { lines = l.sheet.lines ++ cleared plan l.labels (l.slot + l.k) (nodes_of (drop l.k l.branches)) }
