@@ -45,7 +45,7 @@ reaches ts G2 k (deep, kept) = less_begins ts k (suc k) (omega arith) (behind_be
 reaches ts G3 k (long, flat, kept) = less_begins ts k (suc k) (omega arith) (behind_begins ts k IsLong long)
 reaches ts _ k b = absurd b
 
-inside : (ts : List Terminal) (r : Rule) (k : ℕ) → FirstBroken ts r k → k ≤ length ts
+pub inside : (ts : List Terminal) (r : Rule) (k : ℕ) → FirstBroken ts r k → k ≤ length ts
 inside ts G1 k (wrong, kept) = wrong.within
 inside ts G2 k (deep, kept) = omega (arith, deep.0)
 inside ts G3 k (long, flat, kept) = omega (arith, long.0)
@@ -79,7 +79,7 @@ same_rule ts G2 _ k b d = absurd d
 same_rule ts G3 _ k b d = absurd d
 same_rule ts _ s k b d = absurd b
 
-order : (j k : ℕ) → (j < k) ⊎ ((k < j) ⊎ (j ≡ k))
+pub order : (j k : ℕ) → (j < k) ⊎ ((k < j) ⊎ (j ≡ k))
 order zero zero = inr (inr refl)
 order zero (suc k) = inl (omega arith)
 order (suc j) zero = inr (inl (omega arith))
