@@ -1,5 +1,5 @@
 -- Refusals of a program by the rules of its parts.
-use Rattle.std.proofs.Common.{◌≡◌, inl, inr, refl, ℕ, List, Option, Some, Result, Ok, Err, subst}
+use Rattle.std.proofs.Common.{◌≡◌, ◌<◌, ◌^◌, arith, inl, inr, refl, ℕ, List, Result, Ok, Err, subst}
 use Rattle.std.specs.Prelude.{IfOk, IfErr}
 use Rattle.ceu_base.specs.declared.kinds.Rule.{Rule}
 use Rattle.ceu_lex.specs.declared.token.Token.{Token}
@@ -11,7 +11,7 @@ use Rattle.ceu_base.specs.declared.kinds.CheckError.TheVariants as checking
 use Rattle.ceu_bound.specs.PhaseB.{AreBounds, IsBoundRefusal}
 use Rattle.ceu_bound.specs.declared.bounds.Bounds.{Bounds}
 use Rattle.ceu_compile.specs.Errors.{of_check}
-use Rattle.ceu_compile.specs.Programs.{BreaksTree, HasKernel, IsBroken, IsProgram, IsSound, IsTreeBroken, start}
+use Rattle.ceu_compile.specs.Programs.{BreaksTree, HasBounds, HasKernel, IsBroken, IsProgram, IsSound, IsTreeBroken, start}
 use Rattle.ceu_compile.specs.Resolved.{IsUnresolved}
 use Rattle.ceu_compile.specs.Sizes.{IsSize}
 use Rattle.ceu_compile.specs.declared.sizes.Size.{Size}
@@ -37,10 +37,13 @@ pub unbounded : (tree : Tree) (K : Kernel) (e : CheckError) → HasKernel tree K
 unbounded tree K (checking.Refused rule place) has refused = inr (K, has, inl refused)
 unbounded tree K checking.Memory has refused = tt
 
-pub oversized : (tree : Tree) (K : Kernel) (b : Bounds) (sized : Result Size AllocError) (size : Size) (rule : Rule) → HasKernel tree K → AreBounds K b → IfOk sized (λ size. IsSize size K)
+pub kept : (K : Kernel) (b : Bounds) → AreBounds K b → b.turns < 2 ^ 32 → b.levels < 2 ^ 16 → HasBounds K
+kept K b are turns opens = (are.keeps, omega (arith, are.turns), omega (arith, are.levels))
+
+pub oversized : (tree : Tree) (K : Kernel) (sized : Result Size AllocError) (size : Size) (rule : Rule) → HasKernel tree K → HasBounds K → IfOk sized (λ size. IsSize size K)
     → sized ≡ Ok size → size ≡ Over rule → BreaksTree tree rule start
-oversized tree K b sized size rule has bounds is_size ok is =
-    inr (K, has, inr ((b, bounds), subst (λ s. IsSize s K) is (subst (λ r. IfOk r (λ size. IsSize size K)) ok is_size), refl))
+oversized tree K sized size rule has bounds is_size ok is =
+    inr (K, has, inr (bounds, subst (λ s. IsSize s K) is (subst (λ r. IfOk r (λ size. IsSize size K)) ok is_size), refl))
 
 pub whole : (text : List ℕ) (tokens : List Token) (tree : Tree) (r : Result Program CompileError) → HasTree text tokens tree → IfOk r (λ p. IsSound tree p.kernel) → IfOk r (λ p. IsProgram text p.kernel)
 whole text tokens tree (Ok p) has sound = (tokens, tree, has, sound)

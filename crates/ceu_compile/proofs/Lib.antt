@@ -1,4 +1,5 @@
 mod Broken
+mod Outcomes
 mod Parsing
 mod Resolving
 mod SizeCuts

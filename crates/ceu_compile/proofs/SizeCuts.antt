@@ -1,5 +1,5 @@
 -- Sizes that are cut at 4,294,967,295 are over the same limits.
-use Rattle.std.proofs.Common.{◌≡◌, ◌∙◌, sym, ap, refl, ℕ, ◌+◌, ◌*◌, arith, Option, Some, None, false}
+use Rattle.std.proofs.Common.{◌≡◌, ◌∙◌, sym, ℕ, ◌+◌, ◌*◌, arith, Option, None, false}
 use Rattle.std.proofs.lemmas.Bool.Decides.{nat_tests}
 use Rattle.ceu_base.specs.declared.kinds.Rule.{Rule}
 use Rattle.ceu_tree.specs.declared.kernel.Kernel.{Kernel}

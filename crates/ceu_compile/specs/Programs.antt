@@ -1,13 +1,13 @@
 -- What a text stands for: a program, or the first rule that it breaks.
-use Rattle.std.specs.Prelude.{◌≡◌, ◌⊎◌, ℕ, List, Some, None}
+use Rattle.std.specs.Prelude.{◌≡◌, ◌≤◌, ◌⊎◌, ℕ, List, Some, None}
 use Rattle.ceu_base.specs.declared.kinds.Pos.{Pos}
 use Rattle.ceu_base.specs.declared.kinds.Rule.{Rule}
 use Rattle.ceu_base.specs.declared.kinds.CheckError.TheVariants as checking
-use Rattle.ceu_bound.specs.PhaseB.{AreBounds, IsBoundRefusal}
-use Rattle.ceu_bound.specs.declared.bounds.Bounds.{Bounds}
+use Rattle.ceu_bound.specs.PhaseB.{IsBoundRefusal, KeepsLoopRules}
 use Rattle.ceu_expand.specs.Expansion.{kernel_of}
 use Rattle.ceu_lex.specs.declared.token.Token.{Token}
 use Rattle.ceu_scopes.specs.declared.known.Scopes.{Scopes}
+use Rattle.ceu_tree.specs.Costs.{bounds}
 use Rattle.ceu_tree.specs.declared.kernel.Kernel.{Kernel}
 use Rattle.ceu_tree.specs.declared.source.Tree.{Tree}
 use Rattle.ceu_types.specs.declared.typing.Types.{Types}
@@ -25,9 +25,9 @@ HasKernel tree K = (scopes : Scopes) × (types : Types) × IsResolved tree scope
 abbrev pub start : Pos
 start = record { line = 1; col = 1 }
 
--- A kernel keeps the rules on bounds.
+-- A kernel keeps the rules on bounds: no loop breaks one, and the turns and the levels of its reactions are within their limits.
 abbrev pub HasBounds : Kernel → Type 0
-HasBounds K = (b : Bounds) × AreBounds K b
+HasBounds K = KeepsLoopRules K × ((bounds K).turns ≤ 4294967295) × ((bounds K).opens ≤ 65535)
 
 -- The first rule that a kernel breaks: on bounds, on sizes.
 abbrev pub BreaksKernel : Kernel → Rule → Pos → Type 0

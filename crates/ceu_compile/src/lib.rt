@@ -3,10 +3,12 @@
 
 mod errors;
 mod front;
+mod laws;
 mod naming;
 mod program;
 mod sizes;
 
 pub use errors::CompileError;
 pub use front::{Parsed, syntax_of};
+pub use laws::one_outcome;
 pub use program::{Program, program_of};

@@ -1,5 +1,5 @@
 -- One open operator, and the expression under it.
-use Rattle.std.proofs.Common.{◌≡◌, refl, sym, ap, ◌∙◌, ℕ, ◌<◌, ◌≤◌, List, ◌∷◌, Bool, true, false, if◌then◌else◌, nat_lt, Result, Ok, Err, arith, subst}
+use Rattle.std.proofs.Common.{◌≡◌, refl, sym, ℕ, ◌<◌, ◌≤◌, List, ◌∷◌, Bool, true, false, if◌then◌else◌, nat_lt, Result, Err, arith, subst}
 use Rattle.std.proofs.lemmas.Bool.Decides.{nat_tests}
 use Rattle.ceu_base.specs.declared.kinds.Op2.{Op2}
 use Rattle.ceu_base.specs.declared.kinds.Pos.{Pos}

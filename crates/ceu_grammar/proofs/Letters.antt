@@ -1,5 +1,5 @@
 -- The names among the tokens of a text have letters.
-use Rattle.std.proofs.Common.{◌≡◌, refl, sym, ap, ◌∙◌, ℕ, zero, suc, ◌+◌, ◌-◌, ◌≤◌, ◌<◌, List, [], ◌∷◌, Option, Some, None, Result, Ok, Err, if◌then◌else◌, Bool, true, false, arith, length, take, drop, subst, map, nat_lt, nat_eq, slice_index, get_or}
+use Rattle.std.proofs.Common.{◌≡◌, refl, sym, ℕ, zero, suc, ◌+◌, ◌-◌, ◌≤◌, ◌<◌, List, [], ◌∷◌, Result, Ok, Err, if◌then◌else◌, Bool, true, false, arith, length, take, drop, subst, nat_lt, nat_eq, slice_index, get_or}
 use Rattle.std.specs.Char.{is_ascii_alphabetic, is_ascii_digit}
 use Rattle.std.proofs.lemmas.List.Folds.{length-prefix_len}
 use Rattle.std.specs.Prelude.{◌==◌, ◌&&◌, All}
@@ -15,7 +15,7 @@ use Rattle.ceu_lex.specs.Texts.{IsNext, ReadsTo, Reads}
 use Rattle.ceu_lex.specs.declared.token.Sym.{Sym}
 use Rattle.ceu_lex.specs.declared.token.Token.{Token}
 use Rattle.ceu_lex.specs.declared.token.TokenKind.{TokenKind}
-use Rattle.ceu_lex.specs.declared.token.TokenKind.TheVariants.{Reserved, Lower, Ext, Abs, Under, Number, Time, Symbol}
+use Rattle.ceu_lex.specs.declared.token.TokenKind.TheVariants.{Lower, Ext, Abs, Under, Number, Time, Symbol}
 use Rattle.ceu_grammar.specs.Spelling.{HasLetters, IsSpelledAs, IsSpelled}
 
 -- a lexeme that is a name has letters

@@ -1,7 +1,12 @@
 -- How many levels a push and a pop leave open.
-use Rattle.std.proofs.Common.{◌≡◌, refl, sym, ap, ◌∙◌, ℕ, ◌+◌, ◌-◌, ◌≤◌, List, [], ◌∷◌, ◌++◌, Bool, true, false, if◌then◌else◌, length, reverse, arith}
-use Rattle.std.proofs.lemmas.List.{reverse-append, length-reverse}
+use Rattle.std.proofs.Common.{◌≡◌, refl, sym, ap, subst, ◌∙◌, ℕ, ◌+◌, ◌-◌, ◌<◌, ◌≤◌, List, [], ◌∷◌, ◌++◌, Bool, true, false, Some, None, if◌then◌else◌, get_or, length, reverse, arith}
+use Rattle.std.proofs.lemmas.List.{get_or-reverse, reverse-append, length-reverse}
+use Rattle.std.proofs.lemmas.Option.{get_or_from_slice_get, slice_get_within, slice_get-get_or}
+use Rattle.std.specs.List.{slice_get}
 use Rattle.ceu_syntax.specs.declared.machine.Frame.{Frame}
+use Rattle.ceu_syntax.specs.declared.machine.Frame.TheVariants as f
+use Rattle.ceu_syntax.specs.Levels as limit
+use Rattle.ceu_syntax.specs.Levels.{is_begun, is_at_statement}
 use Rattle.ceu_grammar.specs.Levels.{opens_level, level_count}
 
 pub no_levels : level_count [] ≡ 0
@@ -46,3 +51,39 @@ popped frame items next levels h marked e = let n : level_count (reverse next) +
 
 pub popped_beside : (frame : Frame) (items next : List Frame) (levels : ℕ) → levels ≡ level_count (reverse items) → opens_level frame ≡ false → items ≡ next ++ frame ∷ [] → levels ≡ level_count (reverse next)
 popped_beside frame items next levels h unmarked e = h ∙ sym (pushed_beside frame next items (level_count (reverse next)) refl unmarked e)
+
+-- ---- what stands on top
+
+first_begun : (K : List Frame) (d : Frame) → 0 < length K → is_at_statement K ≡ is_begun (get_or K 0 d)
+first_begun [] d h = absurd (omega arith)
+first_begun (frame ∷ K) d h = refl
+
+pub top_begun : (items seen : List Frame) (frame : Frame) → seen ≡ items → Some frame ≡ slice_get seen (length seen - 1) → is_at_statement (reverse items) ≡ is_begun frame
+top_begun items seen frame same read = go (subst (λ l. Some frame ≡ slice_get l (length l - 1)) same read)
+  where
+    go : Some frame ≡ slice_get items (length items - 1) → is_at_statement (reverse items) ≡ is_begun frame
+    go h =
+        let inside : length items - 1 < length items = slice_get_within items (length items - 1) frame (sym h) in
+        let last : get_or items (length items - 1) frame ≡ frame = get_or_from_slice_get items (length items - 1) frame frame (sym h) in
+        let nonempty : 0 < length (reverse items) = omega (arith, length-reverse items) in
+        let first : length items - 1 - 0 ≡ length items - 1 = omega arith in
+        first_begun (reverse items) frame nonempty ∙ ap (λ x. is_begun x) (get_or-reverse items 0 frame (omega arith) ∙ ap (λ i. get_or items i frame) first ∙ last)
+
+pub none_begun : (items seen : List Frame) → seen ≡ items → None ≡ slice_get seen (length seen - 1) → is_at_statement (reverse items) ≡ false
+none_begun items seen same read = go items (subst (λ l. None ≡ slice_get l (length l - 1)) same read)
+  where
+    go : (l : List Frame) → None ≡ slice_get l (length l - 1) → is_at_statement (reverse l) ≡ false
+    go [] h = refl
+    go (frame ∷ l) h = let e : slice_get (frame ∷ l) (length (frame ∷ l) - 1) ≡ Some (get_or (frame ∷ l) (length (frame ∷ l) - 1) frame) = slice_get-get_or (frame ∷ l) (length (frame ∷ l) - 1) frame (omega arith) in absurd (cc)
+
+-- ---- the levels of the limit on nesting
+
+opens_level-limit : (frame : Frame) → opens_level frame ≡ limit.opens_level frame
+opens_level-limit (f.Paren at) = refl
+opens_level-limit (f.Body b) = refl
+opens_level-limit _ = refl
+
+pub level_count-limit : (K : List Frame) → level_count K ≡ limit.level_count K
+unfolding level_count limit.level_count
+level_count-limit [] = refl
+level_count-limit (frame ∷ K) = ap (λ b. (if b then 1 else 0) + level_count K) (opens_level-limit frame) ∙ ap (λ n. (if limit.opens_level frame then 1 else 0) + n) (level_count-limit K)

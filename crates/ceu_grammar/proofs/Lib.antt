@@ -2,9 +2,11 @@ pub mod Letters
 pub mod Levels
 pub mod Moved
 pub mod Folding
+pub mod Finalizes
 pub mod Finishes
 pub mod Others
 pub mod Modes
 pub mod Loops
 pub mod Refusals
+pub mod Tallies
 pub mod Answered

@@ -1,10 +1,9 @@
 -- How the answers of the parser's steps follow from each other.
-use Rattle.std.proofs.Common.{◌≡◌, refl, sym, ap, subst, ◌∙◌, ℕ, List, [], ◌∷◌, Option, Some, None, Result, Ok, Err}
-use Rattle.ceu_tree.specs.declared.source.Exp.{Exp}
+use Rattle.std.proofs.Common.{◌≡◌, sym, ap, subst, ◌∙◌, List, [], ◌∷◌, Option, None, Result, Err}
 use Rattle.ceu_tree.specs.declared.source.Node.{Node}
 use Rattle.ceu_syntax.specs.declared.machine.Frame.{Frame}
 use Rattle.ceu_syntax.specs.declared.machine.Mode.{Mode}
-use Rattle.ceu_syntax.specs.Steps.{State, state, Gathered, Held, held}
+use Rattle.ceu_syntax.specs.Steps.{State, Gathered, Held}
 use Rattle.ceu_grammar.specs.declared.stop.Stop.{Stop}
 use Rattle.ceu_grammar.specs.declared.stop.Stop.TheVariants.{Memory, Wrong}
 use Rattle.ceu_grammar.specs.Moves.{Moves, Gathers, Reduces, Finishes}

@@ -1,144 +1,161 @@
-// The limits on nesting and on operators: how many levels are open, and how many operators the outermost expression has so far.
-use crate::tables::{binary_of, prefix_of};
-use ceu_lex::{Sym, TokenKind, Word};
+// The limits on nesting and on operators.
+ghost use Rattle.std.specs.Prelude.{◌≡◌, ◌≤◌, ◌<◌, ◌↔◌, ℕ, List, IsTrue, true, if◌then◌else◌};
+ghost use Rattle.ceu_base.specs.declared.kinds.Pos.{Pos};
+ghost use Rattle.ceu_syntax.specs.Counts as count;
+ghost use Rattle.ceu_syntax.specs.declared.machine.Mode.TheVariants as m;
+ghost use Rattle.ceu_syntax.specs.Limits as limit;
+ghost use Rattle.ceu_syntax.specs.Steps as spec;
+ghost use Rattle.ceu_syntax.specs.Terminals.{kind_of, of_word, terminals};
+
+use crate::stack::Stack;
+use crate::tables::binary_of;
+use ceu_lex::{Token, TokenKind, Word};
 use ceu_syntax::{Acting, Kind, Mode, Opening, Owner};
 
 /// The greatest number of levels that may be open.
-const LEVELS: u32 = 64;
+const LEVELS: usize = 64;
 
-/// The greatest number of operators that an expression may have.
+/// The greatest number of operators that an outermost expression may have.
 const OPERATORS: u32 = 256;
 
-/// Where a token stands.
-#[derive(Clone, Copy, Debug, PartialEq, Eq)]
-pub enum Place {
-    /// An operand, or the first token of what may be an expression.
-    Operand,
-    First,
-    /// Behind an operand, and elsewhere in an expression.
-    Behind,
-    Inside,
-    /// Behind a `do` that begins a statement or a source, an `else`, a `finalize`.
-    Do,
-    Else,
-    Finalize,
-    Other,
-}
-
-#[derive(Clone, Copy, Debug)]
-pub struct Limits {
-    levels: u32,
-    operators: u32,
-}
-
-pub fn place_of(mode: &Mode) -> Place {
-    match mode {
-        Mode::Start => Place::Operand,
-        Mode::Named(_, _) | Mode::After(_) | Mode::Typed(_) => Place::Behind,
-        Mode::Cast(_, _) => Place::Inside,
-        Mode::Outer(Owner::Operand, _) | Mode::OuterName(Owner::Operand, _) => Place::Inside,
-        Mode::Acting(Acting::Source) => Place::First,
-        Mode::Acting(Acting::EmitValue(_)) => Place::First,
-        Mode::Acting(Acting::Arguments(_)) => Place::First,
-        Mode::Acting(Acting::Escape) => Place::First,
-        Mode::Acting(Acting::EscapeValue(_)) => Place::First,
-        Mode::Opening(Opening::Do) => Place::Do,
-        Mode::Opening(Opening::Else(_)) => Place::Else,
-        Mode::Opening(Opening::Finalize) => Place::Finalize,
-        _ => Place::Other,
-    }
-}
-
-/// Whether a token is an operator of an expression.
-pub fn is_operator(place: Place, kind: &Kind) -> bool {
-    match place {
-        Place::Operand | Place::First => prefix_of(kind).is_some(),
-        Place::Behind => match kind {
-            Kind::As => true,
-            Kind::Question => true,
-            _ => binary_of(kind).is_some(),
-        },
+fn is_finalize_word(word: Word) -> bool
+    ensures { result ≡ limit.is_finalize (of_word word) }
+{
+    match word {
+        Word::Finalize => true,
         _ => false,
     }
 }
 
-fn is_do(mode: &Mode) -> bool {
-    matches!(mode, Mode::Opening(Opening::Do))
-}
-
-impl Limits {
-    pub fn new() -> Limits {
-        Limits {
-            levels: 0,
-            operators: 0,
-        }
-    }
-
-    /// Whether the `do` before a token opens one level too many.
-    pub fn is_deep_before(&self, place: Place) -> bool {
-        place == Place::Do && self.levels >= LEVELS
-    }
-
-    /// Whether the text ends with a `do` that opens one level too many.
-    pub fn is_deep_at_end(&self, mode: &Mode) -> bool {
-        self.levels >= LEVELS && is_do(mode)
-    }
-
-    pub fn is_deep(&self) -> bool {
-        self.levels > LEVELS
-    }
-
-    pub fn is_long(&self) -> bool {
-        self.operators > OPERATORS
-    }
-
-    /// Counts a token that was taken.
-    pub fn count(&mut self, place: Place, kind: TokenKind, is_operator: bool, mode: &Mode) {
-        self.operators = operators_after(self.operators, place, kind, is_operator);
-        let levels = if place == Place::Do && kind != TokenKind::Reserved(Word::Finalize) {
-            self.levels.saturating_add(1)
-        } else {
-            self.levels
-        };
-        self.levels = levels_after(levels, place, kind, mode);
+fn is_finalize(kind: TokenKind) -> bool
+    ensures { (name : List ℕ) → result ≡ limit.is_finalize (kind_of kind name) }
+{
+    match kind {
+        TokenKind::Reserved(word) => is_finalize_word(word),
+        _ => false,
     }
 }
 
-fn operators_after(operators: u32, place: Place, kind: TokenKind, is_operator: bool) -> u32 {
-    let so_far = match place {
-        Place::Operand | Place::Inside => operators,
-        Place::Behind => match kind {
-            TokenKind::Symbol(Sym::Comma) | TokenKind::Symbol(Sym::Arrow) => 0,
-            _ => operators,
-        },
-        _ => 0,
-    };
-    if is_operator {
-        so_far.saturating_add(1)
+/// Whether the word `finalize` stands at the head of these tokens.
+pub fn goes_on_finalize(rest: &[Token]) -> bool
+    ensures { (text : List ℕ) → result ≡ limit.goes_on_finalize (terminals text rest.now) }
+{
+    match rest {
+        [token, ..] => is_finalize(token.kind),
+        [] => false,
+    }
+}
+
+/// Whether the word `do` has opened a level that its block hasn't yet.
+fn opened_by_do(mode: &Mode, at_statement: bool, finalize: bool) -> bool
+    ensures { limit.opened_by_do mode.now at_statement finalize ≡ (if result then 1 else 0) }
+{
+    match mode {
+        Mode::Opening(Opening::Do) => !(at_statement && finalize),
+        Mode::Opening(Opening::DoLabel) => true,
+        _ => false,
+    }
+}
+
+/// Whether more than 64 levels are open.
+pub fn is_deep(stack: &Stack, mode: &Mode, finalize: bool) -> bool
+    ensures { IsTrue result ↔ limit.IsDeep (spec.state stack.now mode.now) finalize }
+{
+    let levels = stack.levels();
+    let late = opened_by_do(mode, stack.is_at_statement(), finalize);
+    levels > LEVELS || (levels == LEVELS && late)
+}
+
+/// Whether a token is an operator, where it stands in an expression.
+fn is_operator(kind: &Kind) -> bool
+    ensures { result ≡ count.is_operator kind.now }
+{
+    match kind {
+        Kind::As => true,
+        Kind::Question => true,
+        Kind::Not => true,
+        Kind::Tilde => true,
+        kind => binary_of(kind).is_some(),
+    }
+}
+
+/// Whether an expression that follows another one begins behind a token.
+fn begins_next(kind: &Kind) -> bool
+    ensures { result ≡ count.begins_next kind.now }
+{
+    match kind {
+        Kind::Comma => true,
+        Kind::Arrow => true,
+        _ => false,
+    }
+}
+
+/// The operators of the expression that is open behind a token, from those before it.
+pub fn counted(operators: u32, kind: &Kind) -> u32
+    requires { operators ≤ 256 }
+    ensures { result ≡ count.counted true kind.now operators }
+{
+    let so_far = if begins_next(kind) { 0 } else { operators };
+    if is_operator(kind) {
+        so_far + 1
     } else {
         so_far
     }
 }
 
-fn levels_after(levels: u32, place: Place, kind: TokenKind, mode: &Mode) -> u32 {
-    let opens = match kind {
-        TokenKind::Symbol(Sym::OpenParen) => place == Place::Operand || place == Place::First,
-        TokenKind::Reserved(Word::Then) => true,
-        TokenKind::Reserved(Word::Do) => matches!(mode, Mode::In(_)),
-        TokenKind::Reserved(Word::With) => place == Place::Finalize,
-        _ => false,
-    };
-    let closes = match kind {
-        TokenKind::Symbol(Sym::CloseParen) => matches!(mode, Mode::After(_)),
-        TokenKind::Symbol(Sym::Slash) => place == Place::Else,
-        TokenKind::Reserved(Word::End) => true,
-        _ => false,
-    };
-    if opens {
-        levels.saturating_add(1)
-    } else if closes {
-        levels.saturating_sub(1)
-    } else {
-        levels
+fn is_operand(owner: Owner) -> bool
+    ensures { (at : Pos) → result ≡ count.in_expression (m.Outer owner at) }
+{
+    match owner {
+        Owner::Operand => true,
+        Owner::Store => false,
+        Owner::Emit => false,
+        Owner::Target => false,
+        Owner::Every => false,
     }
+}
+
+fn is_source(acting: &Acting) -> bool
+    ensures { result ≡ count.in_expression (m.Acting acting.now) }
+{
+    match acting {
+        Acting::Source => true,
+        _ => false,
+    }
+}
+
+/// Whether an expression is open, or may begin.
+fn in_expression(mode: &Mode) -> bool
+    ensures { result ≡ count.in_expression mode.now }
+{
+    match mode {
+        Mode::Start => true,
+        Mode::Named(_, _) => true,
+        Mode::After(_) => true,
+        Mode::Cast(_, _) => true,
+        Mode::Typed(_) => true,
+        Mode::Outer(owner, _) => is_operand(*owner),
+        Mode::OuterName(owner, _) => is_operand(*owner),
+        Mode::In(_) => false,
+        Mode::Semicolon(_) => false,
+        Mode::Declaring(_) => false,
+        Mode::Coding(_) => false,
+        Mode::Acting(acting) => is_source(acting),
+        Mode::Opening(_) => false,
+        Mode::Looping(_) => false,
+    }
+}
+
+/// The operators of the expression that is open, and none where no expression is.
+pub fn where_open(mode: &Mode, operators: u32) -> u32
+    ensures { result ≡ (if count.in_expression mode.now then operators else 0) }
+{
+    if in_expression(mode) { operators } else { 0 }
+}
+
+/// Whether an expression has more than 256 operators.
+pub fn is_long(operators: u32) -> bool
+    ensures { IsTrue result ↔ (256 < operators) }
+{
+    operators > OPERATORS
 }

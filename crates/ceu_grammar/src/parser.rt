@@ -1,15 +1,16 @@
 // The tree of a list of tokens.
-ghost use Rattle.std.specs.Prelude.{◌≡◌, [], ◌<◌, ◌≤◌, ℕ, List, All, Err, length, IfOk};
+ghost use Rattle.std.specs.Prelude.{◌≡◌, [], ◌<◌, ◌≤◌, ℕ, List, All, Err, Some, length, IfOk, OnOk};
 ghost use Rattle.ceu_base.specs.declared.kinds.Pos.{Pos};
-ghost use Rattle.ceu_base.specs.declared.kinds.Rule.TheVariants.{G1};
-ghost use Rattle.ceu_syntax.specs.Grammar.{Derives, FirstWrong};
+ghost use Rattle.ceu_base.specs.declared.kinds.Rule.{Rule};
+ghost use Rattle.ceu_syntax.specs.Grammar.{Derives};
+ghost use Rattle.ceu_syntax.specs.Limits.{FirstBroken, WithinLimits, operator_count};
 ghost use Rattle.ceu_syntax.specs.Terminals.{terminals};
 ghost use Rattle.ceu_grammar.specs.Spelling.{IsSpelled};
 ghost use Rattle.ceu_lex.specs.Texts.{Reads};
 ghost use Rattle.ceu_grammar.specs.declared.parser.ParseError.TheVariants as parse_error;
 ghost use Rattle.ceu_grammar.specs.declared.parser.ParseError.TheVariants.{Refused};
 ghost use Rattle.ceu_grammar.specs.Moves.{Finishes};
-ghost use Rattle.ceu_grammar.specs.Answers.{IsJudged, IsRefused, PlaceOf, Takes};
+ghost use Rattle.ceu_grammar.specs.Answers.{IsRefused, PlaceOf, Takes};
 ghost use Rattle.ceu_grammar.specs.Answers as answers;
 ghost use Rattle.ceu_syntax.specs.Runs as run;
 ghost use Rattle.ceu_grammar.specs.Moves.{Moves};
@@ -23,7 +24,7 @@ use crate::blocks::in_block;
 use crate::declarations::{coded, declared};
 use crate::ends::{closed, gathered, located};
 use crate::expressions::{casts, ends, follows, named, starts};
-use crate::limits::{Limits, Place, is_operator, place_of};
+use crate::limits::{counted, goes_on_finalize, is_deep, is_long, where_open};
 use crate::openings::{looping, opening};
 use crate::stack::Stack;
 use crate::steps::{give_up, refuse, wrong};
@@ -31,7 +32,7 @@ use crate::stop::Stop;
 use crate::terminal::{end_of, terminal_of};
 use crate::trees::outer;
 use ceu_base::{Pos, Rule, Seq, Ty};
-use ceu_lex::{Token, TokenKind, Word};
+use ceu_lex::Token;
 use ceu_syntax::{Declaring, Frame, Kind, Mode, Owner, Terminal};
 use ceu_tree::{Block, Item, Node, Stmt, Tree};
 use std::alloc::{AllocError, Global};
@@ -152,68 +153,52 @@ impl From<AllocError> for ParseError {
     }
 }
 
-/// Why a token is refused: by a rule there, by the limit on nesting at the token before, or want of memory.
+/// Why a token is refused: by a rule, or for want of memory.
 #[derive(Clone, Copy, Debug)]
 enum Refusal {
-    Here(Rule),
-    Before,
+    Broken(Rule),
     Memory,
 }
 
-/// Counts a token that was taken.
+/// Asks the limits behind a token that was taken, with the operators of the expression that is open.
 #[tactic(none)]
-fn judged(
-    limits: &mut Limits,
-    place: Place,
-    kind: TokenKind,
-    operator: bool,
-    next: Mode,
-) -> Result<Mode, Refusal>
-    ensures { IsJudged result next }
+fn judged(stack: &Stack, operators: u32, next: Mode, finalize: bool) -> Result<Mode, Refusal>
+    requires { operators ≡ operator_count (spec.state stack.now next) }
+    ensures { Takes result stack.now operators finalize (Some (spec.state stack.now next)) }
 {
-    limits.count(place, kind, operator, &next);
-    if limits.is_deep() {
+    if is_deep(stack, &next, finalize) {
         give_up(next);
-        Err(Refusal::Here(Rule::G2))
-    } else if limits.is_long() {
+        Err(Refusal::Broken(Rule::G2))
+    } else if is_long(operators) {
         give_up(next);
-        Err(Refusal::Here(Rule::G3))
+        Err(Refusal::Broken(Rule::G3))
     } else {
         Ok(next)
     }
 }
 
-/// Takes one token within the limits.
+/// Takes one token within the limits, where `finalize` says whether that word follows it.
 #[tactic(none)]
 fn taken(
     alloc: Global,
     stack: &mut Stack,
+    operators: &mut u32,
     mode: Mode,
-    limits: &mut Limits,
     terminal: Terminal,
-    kind: TokenKind,
+    finalize: bool,
 ) -> Result<Mode, Refusal>
-    ensures { Takes result stack.new (spec.moved terminal.kind terminal.pos stack.old mode) }
+    requires counted { operators.old ≡ operator_count (spec.state stack.old mode) }
+    requires few { operators.old ≤ 256 }
+    ensures { Takes result stack.new operators.new finalize (spec.moved terminal.kind terminal.pos stack.old mode) }
 {
-    let place = place_of(&mode);
-    let operator = is_operator(place, &terminal.kind);
-    let is_deep = limits.is_deep_before(place);
+    let inside = counted(*operators, &terminal.kind);
     match moved(alloc, stack, mode, terminal.kind, terminal.pos) {
         Ok(next) => {
-            if is_deep && kind != TokenKind::Reserved(Word::Finalize) {
-                give_up(next);
-                return Err(Refusal::Before);
-            }
-            judged(limits, place, kind, operator, next)
+            *operators = where_open(&next, inside);
+            judged(stack, *operators, next, finalize)
         }
         Err(Stop::Memory) => Err(Refusal::Memory),
-        Err(Stop::Wrong) => {
-            if is_deep {
-                Err(Refusal::Before)
-            } else {
-                Err(Refusal::Here(Rule::G1))
-            }
-        }
+        Err(Stop::Wrong) => Err(Refusal::Broken(Rule::G1)),
     }
 }
 
@@ -222,11 +207,7 @@ fn refused(refusal: Refusal, tokens: &[Token], k: usize) -> ParseError
     ensures { IsRefused refusal result tokens.now k }
 {
     match refusal {
-        Refusal::Here(rule) => ParseError::Refused(rule, tokens[k].pos, k),
-        Refusal::Before => {
-            let before = k.saturating_sub(1);
-            ParseError::Refused(Rule::G2, tokens[before].pos, before)
-        }
+        Refusal::Broken(rule) => ParseError::Refused(rule, tokens[k].pos, k),
         Refusal::Memory => ParseError::Memory,
     }
 }
@@ -237,16 +218,10 @@ fn ended(
     mode: Mode,
     text: &[u8],
     tokens: &[Token],
-    limits: &Limits,
 ) -> Result<Seq<Node>, ParseError>
     requires text { length text.now ≤ 1048576 }
     ensures { answers.EndsAs result (run.finish (spec.state stack.old mode)) text.now tokens.now }
 {
-    if tokens.len() > 0 && limits.is_deep_at_end(&mode) {
-        give_up(mode);
-        let last = tokens.len() - 1;
-        return Err(ParseError::Refused(Rule::G2, tokens[last].pos, last));
-    }
     match finished(stack, mode) {
         Ok(nodes) => Ok(nodes),
         Err(Stop::Memory) => Err(ParseError::Memory),
@@ -267,11 +242,12 @@ fn all_taken(
     ensures { answers.Answers result text.now tokens.now }
 {
     let mut mode = Mode::In(Seq::new(alloc));
-    let mut limits = Limits::new();
+    let mut operators = 0;
     for k in 0..tokens.len() {
         let token = tokens[k];
+        let finalize = goes_on_finalize(&tokens[k + 1..]);
         match terminal_of(alloc, text, token) {
-            Ok(terminal) => match taken(alloc, stack, mode, &mut limits, terminal, token.kind) {
+            Ok(terminal) => match taken(alloc, stack, &mut operators, mode, terminal, finalize) {
                 Ok(next) => mode = next,
                 Err(refusal) => return Err(refused(refusal, tokens, k)),
             },
@@ -281,18 +257,18 @@ fn all_taken(
             }
         }
     }
-    ended(stack, mode, text, tokens, &limits)
+    ended(stack, mode, text, tokens)
 }
 
-/// The tree of the tokens of a text of at most 1,048,576 bytes. Linear in their number.
-#[tactic(auto, using(crate::proofs::Answered::answered))]
+/// The tree of the tokens of a text of at most 1,048,576 bytes, of at most 64 levels and 256 operators in an expression. Linear in their number.
 pub fn parse(alloc: Global, text: &[u8], tokens: &Seq<Token>) -> Result<Tree, ParseError>
     requires text { length text.now ≤ 1048576 }
     requires reads { Reads text.now tokens.now }
-    // The tokens derive the tree that is found.
+    // The tokens derive the tree that is found, within the limits.
     ensures derives { IfOk result (λ tree. Derives text.now tokens.now tree) }
-    // A refusal by G1 stands at the first token with which no program goes on, and says how many tokens are before it.
-    ensures refused { (pos : Pos) (k : ℕ) → result ≡ Err (Refused G1 pos k) → FirstWrong (terminals text.now tokens.now) k × PlaceOf text.now tokens.now k pos }
+    ensures within { OnOk result (WithinLimits (terminals text.now tokens.now)) }
+    // A refusal names the rule of grammar that is broken first, its place, and how many tokens are before it.
+    ensures refused { (rule : Rule) (pos : Pos) (k : ℕ) → result ≡ Err (Refused rule pos k) → FirstBroken (terminals text.now tokens.now) rule k × PlaceOf text.now tokens.now k pos }
 {
     let mut stack = Stack::new(alloc);
     let answer = all_taken(alloc, &mut stack, text, tokens.items());

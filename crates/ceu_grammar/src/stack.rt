@@ -1,6 +1,7 @@
 // What is open, as a stack of frames that knows how many levels of nesting they make.
 ghost use Rattle.std.specs.Prelude.{◌≡◌, [], ◌∷◌, OnOk, OnErr, MatchOption, IsTrue};
-ghost use Rattle.ceu_grammar.specs.Levels.{level_count, opens_level};
+ghost use Rattle.ceu_grammar.specs.Levels.{opens_level};
+ghost use Rattle.ceu_syntax.specs.Levels as limit;
 
 use ceu_syntax::Frame;
 use std::alloc::{AllocError, Global};
@@ -40,6 +41,16 @@ fn is_level(frame: &Frame) -> bool
     }
 }
 
+/// Whether a frame is a statement that has begun.
+fn is_begun(frame: &Frame) -> bool
+    ensures { result ≡ limit.is_begun frame.now }
+{
+    match frame {
+        Frame::Begun(_, _) => true,
+        _ => false,
+    }
+}
+
 impl Stack {
     pub fn new(alloc: Global) -> Stack
         ensures { result ≡ [] }
@@ -74,8 +85,18 @@ impl Stack {
 
     /// How many levels are open.
     pub fn levels(&self) -> usize
-        ensures { result ≡ level_count self.now }
+        ensures { result ≡ limit.level_count self.now }
     {
         self.levels
+    }
+
+    /// Whether a statement has begun, and nothing in it.
+    pub fn is_at_statement(&self) -> bool
+        ensures { result ≡ limit.is_at_statement self.now }
+    {
+        match self.items.last() {
+            Some(frame) => is_begun(frame),
+            None => false,
+        }
     }
 }

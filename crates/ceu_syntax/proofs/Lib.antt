@@ -10,3 +10,7 @@ pub mod TakesForms
 pub mod Exact
 pub mod Completed
 pub mod Completes
+pub mod Counting
+pub mod CountingAll
+pub mod Outcomes
+pub mod RowsOfLimits

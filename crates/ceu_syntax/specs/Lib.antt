@@ -5,3 +5,6 @@ pub mod Forms
 pub mod Grammar
 pub mod Steps
 pub mod Runs
+pub mod Levels
+pub mod Limits
+pub mod Counts

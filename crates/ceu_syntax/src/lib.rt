@@ -5,7 +5,7 @@ mod laws;
 mod machine;
 mod terminal;
 
-pub use laws::{accepts_programs, ends_at_first_wrong, one_tree};
+pub use laws::{accepts_programs, ends_at_first_wrong, one_outcome, one_tree};
 pub use machine::{
     Act, Acting, Body, Case, Coding, Declaring, Frame, Listed, Looping, Mode, Opening, Owner,
 };

@@ -1,6 +1,5 @@
 use Rattle.std.proofs.Common.{refl, ap}
 use Rattle.ceu_syntax.specs.Steps as spec
-use Rattle.ceu_syntax.specs.declared.machine.Opening.TheVariants as o
 use Rattle.ceu_grammar.proofs.Moved.{refused, moves_as}
 use Rattle.ceu_grammar.proofs.blocks.begins.Goals as goal
 

@@ -1,6 +1,5 @@
 use Rattle.std.proofs.Common.{ap}
 use Rattle.ceu_syntax.specs.Steps as spec
-use Rattle.ceu_syntax.specs.declared.machine.Opening.TheVariants as o
 use Rattle.ceu_grammar.proofs.Moved.{moves_as}
 use Rattle.ceu_grammar.proofs.expressions.follows.Goals as goal
 

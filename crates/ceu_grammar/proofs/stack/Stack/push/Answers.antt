@@ -1,4 +1,4 @@
-use Rattle.std.proofs.Common.{◌∙◌, sym, arith, ◌≤◌, length}
+use Rattle.std.proofs.Common.{◌∙◌, sym, arith}
 use Rattle.ceu_grammar.proofs.Levels.{pushed, pushed_beside, level_count-within}
 use Rattle.ceu_grammar.proofs.stack.Stack.push.Goals as goal
 
