@@ -60,7 +60,7 @@ type_there ty.S32 = refl
 type_there ty.U64 = refl
 type_there ty.S64 = refl
 
-one_type : (t u : Ty) → Some t ≡ Some u → t ≡ u
+pub one_type : (t u : Ty) → Some t ≡ Some u → t ≡ u
 one_type t u e = cc
 
 pub same_is : (t u : Ty) → same_ty t u ≡ true → t ≡ u
@@ -157,7 +157,7 @@ first_holds a b t (u ∷ ts) e = go (holds_all u a && holds_all u b) refl e (fir
 same_itself : (t : Ty) → same_ty t t ≡ true
 same_itself t = eq-eqb (ty_number t) (ty_number t) refl
 
-holds_itself : (t : Ty) → holds_all t t ≡ true
+pub holds_itself : (t : Ty) → holds_all t t ≡ true
 holds_itself t = ap (λ (b : Bool). b || (is_numeric t && is_numeric t && int_le (least t) (least t) && int_le (above t) (above t))) (same_itself t)
 
 pub common_holds : (a b t : Ty) → common a b ≡ Some t → holds_all t a ≡ true

@@ -52,7 +52,7 @@ module _ (reads : Loc → Bool) (asks : ℕ → Bool) (body : Body) (w : World) 
   mutual
     unfolding node_value node_typed NodeReads
 
-    node_result : (e : KExpNode) (t : Ty) (p : Pos) → node_typed reads asks e t ≡ true → NodeReads body w e → IsResult t (node_value e t p body w)
+    pub node_result : (e : KExpNode) (t : Ty) (p : Pos) → node_typed reads asks e t ≡ true → NodeReads body w e → IsResult t (node_value e t p body w)
     node_result (Const v) t p h r = and_right (not (same_ty t ty.None)) (is_value t v) h
     node_result (Read l) t p h r = subst (λ (u : Ty). IsValue u (number_in (look (place_of l body) l.slot w.values))) (same_is l.ty t (and_left (same_ty l.ty t) (reads l) h)) r
     node_result (Alive c) t p h r =
@@ -73,7 +73,7 @@ module _ (reads : Loc → Bool) (asks : ℕ → Bool) (body : Body) (w : World) 
         (operand_result a (and_left (operand_typed reads asks a) (not (same_ty t ty.None)) (and_left (operand_typed reads asks a && not (same_ty t ty.None)) (not (operand_open a) || same_ty (operand_ty a) ty.S32) h)) r)
         (λ x v. wrapped_result t x)
 
-    operand_result : {n : _} (a : Row_of-KExp n) → operand_typed reads asks a ≡ true → OperandReads body w a → IsResult (operand_ty a) (operand_value a body w)
+    pub operand_result : {n : _} (a : Row_of-KExp n) → operand_typed reads asks a ≡ true → OperandReads body w a → IsResult (operand_ty a) (operand_value a body w)
     operand_result end_of-KExp h r = absurd (cc)
     operand_result (more_of-KExp t p e rest) h r = node_result e t p h r
 

@@ -1,0 +1,26 @@
+-- The lines of an expression, where they stand in the code, do what the reference semantics says: they push its value, or fault as it does.
+use Rattle.std.specs.Prelude.{◌≡◌, ℕ, ◌+◌, ◌≤◌, Bool, true, List}
+use Rattle.ceu_base.specs.declared.kinds.Pos.{Pos}
+use Rattle.ceu_code.specs.declared.image.Image.{Image}
+use Rattle.ceu_asm.specs.Lines.{code_size}
+use Rattle.ceu_isa.specs.declared.registers.Registers.{Registers}
+use Rattle.ceu_isa.specs.Safety.{Fits}
+use Rattle.ceu_fetch.specs.Placed.{Placed}
+use Rattle.ceu_shape.specs.Expressions.{exp_draft}
+use Rattle.ceu_tree.specs.declared.kernel.Loc.{Loc}
+use Rattle.ceu_tree.specs.declared.kernel.KExp.{KExp}
+use Rattle.ceu_tree.specs.Depth.{exp_depth}
+use Rattle.ceu_tree.specs.Expressions.{value_of}
+use Rattle.ceu_tree.specs.Residual.{Body}
+use Rattle.ceu_tree.specs.Typing.{typed}
+use Rattle.ceu_tree.specs.World.{World}
+use Rattle.ceu_evaluates.specs.Does.{Gives}
+use Rattle.ceu_evaluates.specs.Seen.{Visible, NodePlaced}
+
+-- from any cell on, from which the image has enough
+abbrev pub ExpressionsEvaluate : Type 0
+ExpressionsEvaluate =
+    (image : Image) (labels offset : ℕ → ℕ) (number : Pos → ℕ) (body : Body) (w : World) (reads : Loc → Bool) (asks : ℕ → Bool) (e : KExp) (fresh : ℕ) (r : Registers) (bytes : List ℕ)
+    → typed reads asks e ≡ true → Fits image bytes → Visible image offset r.frame body w bytes e.node → NodePlaced image number e.node e.pos
+    → Placed image labels r.at ((exp_draft offset e fresh).lines number) → r.depth + exp_depth e ≤ image.depth
+    → Gives image r bytes (r.at + code_size ((exp_draft offset e fresh).lines number)) (value_of e body w)

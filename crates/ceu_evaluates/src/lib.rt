@@ -1,0 +1,10 @@
+//! What the code of an expression does on the machine: the contract of a function with an empty body.
+#![tactic(auto)]
+
+ghost use Rattle.ceu_evaluates.specs.Laws.{ExpressionsEvaluate};
+
+/// Where the lines of a typed expression stand in the code of an image, and its variables and aliases in the memory, the machine pushes the value that
+/// the reference semantics gives, or faults as it does, at the same position; only evaluation cells change.
+pub fn expressions_evaluate()
+    ensures { ExpressionsEvaluate }
+{}
