@@ -1,6 +1,6 @@
 -- From the answers of the parts to that of the whole.
 use Rattle.std.proofs.Common.{◌≡◌, ◌∙◌, refl, sym, ap, subst, ℕ, ◌<◌, ◌≤◌, inl, inr, false, List, length, Option, Some, None, Result, Ok, Err}
-use Rattle.std.specs.Prelude.{IfSome, IfOk, OnOk, OnErr, String}
+use Rattle.std.specs.Prelude.{IfSome, IfOk, OnOk, OnErr}
 use Rattle.std.specs.Global.{Vec}
 use Rattle.ceu_base.specs.declared.kinds.Pos.{Pos}
 use Rattle.ceu_base.specs.declared.kinds.Rule.{Rule}
@@ -14,7 +14,7 @@ use Rattle.ceu_driver.specs.Runs.{PlayCause}
 use Rattle.ceu_driver.specs.declared.answers.Played.{Played}
 use Rattle.ceu_driver.specs.declared.answers.Played.TheVariants as played
 use Rattle.ceu_io.specs.Bytes.{Appends, AppendsProperFront}
-use Rattle.ceu_io.specs.Counts.{HasCause, Rose}
+use Rattle.ceu_io.specs.Counts.{HasCause}
 use Rattle.ceu_io.specs.Shelves.{Fetches, IsWithin, HasShelfCause}
 use Rattle.ceu_io.specs.Told.{WhereTold}
 use Rattle.ceu_io.specs.declared.outside.Failed.{Failed}
@@ -34,9 +34,9 @@ use Rattle.ceu_tree.specs.declared.source.Tree.{Tree}
 use Rattle.ceu_top.specs.Answering.{status_of, played_status, Written, IsWritten, PrintAnswer, IsPrintAnswer, Ran, RunAnswer, TextAnswer, IsTextAnswer, IsFileAnswer}
 use Rattle.ceu_top.specs.Fetching.{Files, answer_of, HasFetched, IsFetch}
 use Rattle.ceu_top.specs.Lines.{refusal_line}
-use Rattle.ceu_top.specs.Outcomes.{first_line, Names, Prints}
+use Rattle.ceu_top.specs.Outcomes.{Names, Prints}
 use Rattle.ceu_top.specs.declared.status.Status.{Status}
-use Rattle.ceu_top.specs.declared.status.Status.TheVariants.{Done, Refused, Write, Memory}
+use Rattle.ceu_top.specs.declared.status.Status.TheVariants.{Done, Refused, Memory}
 use Rattle.ceu_top.specs.declared.words.Mode.{Mode}
 use Rattle.ceu_top.specs.declared.words.Mode.TheVariants.{Run, Check, Tidy}
 

@@ -1,18 +1,17 @@
 -- The clauses of `ceu`, from the one answer that holds all of them.
-use Rattle.std.proofs.Common.{◌≡◌, ◌≢◌, ◌∙◌, refl, sym, ap, subst, ℕ, ◌<◌, ◌≤◌, ◌++◌, ◌⊎◌, inl, inr, arith, false, List, [], length, Option, Some, None, Err}
+use Rattle.std.proofs.Common.{◌≡◌, ◌≢◌, refl, sym, subst, ℕ, ◌<◌, ◌⊎◌, inl, inr, arith, List, [], length, Option, Some, None, Err}
 use Rattle.std.specs.Prelude.{IfSome, MatchOption, String}
-use Rattle.ceu_driver.specs.Printing.{run_text}
 use Rattle.ceu_driver.specs.Runs.{TakesLittle}
 use Rattle.ceu_driver.specs.declared.answers.Played.{Played}
 use Rattle.ceu_driver.specs.declared.answers.Played.TheVariants as played
-use Rattle.ceu_io.specs.Bytes.{Appends, AppendsProperFront}
+use Rattle.ceu_io.specs.Bytes.{Appends}
 use Rattle.ceu_io.specs.Counts.{Rose, Quiet}
 use Rattle.ceu_io.specs.Told.{WhereTold}
 use Rattle.ceu_io.proofs.Offers.{appends_nothing}
 use Rattle.ceu_io.proofs.Telling.{where_told_map, where_told_same}
-use Rattle.ceu_run.specs.Runs.{IsRun, IsCut, IsUpTo, RunPrints, lines_of}
+use Rattle.ceu_run.specs.Runs.{IsRun, IsCut, RunPrints, lines_of}
 use Rattle.ceu_tree.specs.declared.kernel.Kernel.{Kernel}
-use Rattle.ceu_top.specs.Answering.{Printed, PrintAnswer, Unread, Ran, RunAnswer, TextAnswer, Unfetched, Fetched, FileAnswer, NoCommand, IsAnswer}
+use Rattle.ceu_top.specs.Answering.{Printed, Unread, Ran, TextAnswer, Unfetched, Fetched, FileAnswer, NoCommand, IsAnswer}
 use Rattle.ceu_top.specs.Command.{command_of}
 use Rattle.ceu_top.specs.Fetching.{Files, HasFetched}
 use Rattle.ceu_top.specs.Outcomes.{first_line, IsRunnable, Runs, Prints, IsText, IsAbsent, IsTooLong, Outcome, On, Headline, IsWhole, BeginsRun, IsFront, IsCutShort, IsRunUpTo, IsStopped, TakesFor, IsTaken, IsUnwritten, UnlessFailed}

@@ -13,7 +13,7 @@ use Rattle.ceu_top.specs.Command.{command_of}
 use Rattle.ceu_top.specs.Fetching.{Files, HasFetched}
 use Rattle.ceu_top.specs.Outcomes.{first_line, IsRunnable, Prints}
 use Rattle.ceu_top.specs.declared.status.Status.{Status}
-use Rattle.ceu_top.specs.declared.status.Status.TheVariants.{Done, Refused, Words, Script, Fault, Read, Write, Memory, Absent, TooLong}
+use Rattle.ceu_top.specs.declared.status.Status.TheVariants.{Done, Refused, Words, Script, Fault, Read, Write, Memory}
 use Rattle.ceu_top.specs.declared.words.Mode.{Mode}
 use Rattle.ceu_top.specs.declared.words.Mode.TheVariants.{Run}
 
