@@ -64,7 +64,7 @@ two_short op2.And t u v p a b m n f g = record { fits = λ number fresh. go numb
     go number fresh =
         let tail : ℕ → List Line = λ (k : ℕ). goto (k + 1) ∷ mark k ∷ plain (instr.Push ty.Bool (pos 0)) ∷ mark (k + 1) ∷ [] in
         let h = short_both a (both (text (goto_if_false fresh ∷ [])) (both b (text (tail fresh)))) m (3 + (n + 13)) f
-            (short_both (text (goto_if_false fresh ∷ [])) (both b (text (tail fresh))) 3 (n + 13) (short_text _ 3 (omega arith)) (short_both b (text (tail fresh)) n 13 g (short_text (tail fresh) 13 (omega arith)))) in
+        (short_both (text (goto_if_false fresh ∷ [])) (both b (text (tail fresh))) 3 (n + 13) (short_text _ 3 (omega arith)) (short_both b (text (tail fresh)) n 13 g (short_text (tail fresh) 13 (omega arith)))) in
         omega (arith, h.fits number (fresh + 2))
 two_short op2.Or t u v p a b m n f g = record { fits = λ number fresh. go number fresh }
   where
@@ -72,7 +72,7 @@ two_short op2.Or t u v p a b m n f g = record { fits = λ number fresh. go numbe
     go number fresh =
         let head : ℕ → List Line = λ (k : ℕ). goto_if_false k ∷ plain (instr.Push ty.Bool (pos 1)) ∷ goto (k + 1) ∷ mark k ∷ [] in
         let h = short_both a (both (text (head fresh)) (both b (text (mark (fresh + 1) ∷ [])))) m (16 + (n + 0)) f
-            (short_both (text (head fresh)) (both b (text (mark (fresh + 1) ∷ []))) 16 (n + 0) (short_text (head fresh) 16 (omega arith)) (short_both b (text (mark (fresh + 1) ∷ [])) n 0 g (short_text _ 0 (omega arith)))) in
+        (short_both (text (head fresh)) (both b (text (mark (fresh + 1) ∷ []))) 16 (n + 0) (short_text (head fresh) 16 (omega arith)) (short_both b (text (mark (fresh + 1) ∷ [])) n 0 g (short_text _ 0 (omega arith)))) in
         omega (arith, h.fits number (fresh + 2))
 two_short op2.Eq t u v p a b m n f g = binary_short op2.Eq (operator_ty op2.Eq t u v) p a b m n f g
 two_short op2.Ne t u v p a b m n f g = binary_short op2.Ne (operator_ty op2.Ne t u v) p a b m n f g
