@@ -1,5 +1,5 @@
 -- Lines that are added one after the other.
-use Rattle.std.proofs.Common.{◌≡◌, refl, sym, ap, subst, ◌∙◌, ℕ, zero, suc, ◌+◌, ◌-◌, ◌*◌, ◌<◌, ◌≤◌, List, [], ◌∷◌, ◌++◌, length, get_or, arith, append_assoc, Result, Ok, Err, OnOk, Option, Some, None, Bool, true, false, if◌then◌else◌}
+use Rattle.std.proofs.Common.{◌≡◌, refl, sym, ap, ◌∙◌, ℕ, zero, suc, ◌+◌, ◌-◌, ◌*◌, ◌<◌, ◌≤◌, List, [], ◌∷◌, ◌++◌, length, get_or, arith, append_assoc, Result, Ok, Err, OnOk, Option, Some, None, if◌then◌else◌}
 use Rattle.std.proofs.lemmas.List.{append-nil}
 use Rattle.ceu_base.specs.declared.kinds.Port.{Port}
 use Rattle.ceu_base.specs.declared.kinds.Pos.{Pos}
@@ -14,14 +14,13 @@ use Rattle.ceu_tree.specs.declared.kernel.KStmt.TheBlock.{hidden-the_row-KArm-0}
 use Rattle.ceu_tree.specs.Proper.{port_ty, event_at}
 use Rattle.ceu_tree.specs.Weight.{weight}
 use Rattle.ceu_shape.specs.Plans.{Plan}
-use Rattle.ceu_shape.specs.Pieces.{Draft}
 use Rattle.ceu_shape.specs.Searches.{in_code, event_number}
 use Rattle.ceu_shape.specs.Shape.{arm_count, node_draft}
 use Rattle.ceu_low_flow.specs.Conditions.{part_count, label_count}
 use Rattle.ceu_asm.specs.declared.line.Line.{Line}
 use Rattle.ceu_asm.specs.declared.line.Labels.{Labels}
 use Rattle.ceu_asm.specs.Pages.{Page}
-use Rattle.ceu_shape.specs.Words.{mark, plain, goto, goto_if_false, begin_of, end_of, part}
+use Rattle.ceu_shape.specs.Words.{mark, goto, goto_if_false, begin_of, end_of, part}
 use Rattle.ceu_shape.specs.Flow.{arms_lines, arm_ends, if_draft}
 
 pub on_ok : {T E A B : Type 0} → (r : Result T E) → (A → B) → OnOk r A → OnOk r B

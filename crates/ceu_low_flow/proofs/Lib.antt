@@ -1,3 +1,4 @@
 pub mod Targets
 pub mod Asyncs
 pub mod Adding
+pub mod Bytes

@@ -6,7 +6,7 @@ use Rattle.ceu_tree.specs.declared.kernel.ParKind.TheVariants as par
 use Rattle.ceu_tree.specs.declared.kernel.KStmt as k
 use Rattle.ceu_tree.proofs.Build.{node, const, block, port, kernel}
 use Rattle.ceu_shape.specs.Plans.{Plan, plan_of}
-use Rattle.ceu_shape.specs.Shape.{shape, shape_positions}
+use Rattle.ceu_shape.specs.Shape.{shape, begin_offset, finish_offset}
 use Rattle.ceu_shape.proofs.Build.{coded}
 
 no_numbers : ℕ → ℕ
@@ -49,3 +49,16 @@ finalizers_code : (shape finalizers_plan finalizers 4 0).code ≡
     7 ∷ 0 ∷ 0 ∷ 0 ∷ 0 ∷ 0 ∷ 0 ∷ 0 ∷ 0 ∷ 12 ∷ 14 ∷ []
 unfolding finalizers finalizers_plan no_numbers coded
 finalizers_code = refl
+
+-- the await of A goes on behind its instruction, the second branch begins at its block, the inner await FOREVER stands behind its own
+finalizers_awaits : finish_offset finalizers_plan finalizers 3 ≡ 25
+unfolding finalizers finalizers_plan no_numbers coded
+finalizers_awaits = refl
+
+finalizers_begins : begin_offset finalizers_plan finalizers 4 ≡ 31
+unfolding finalizers finalizers_plan no_numbers coded
+finalizers_begins = refl
+
+finalizers_stands : finish_offset finalizers_plan finalizers 16 ≡ 158
+unfolding finalizers finalizers_plan no_numbers coded
+finalizers_stands = refl

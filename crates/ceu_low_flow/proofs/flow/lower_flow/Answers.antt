@@ -1,11 +1,11 @@
-use Rattle.std.proofs.Common.{◌≡◌, sym, ap, subst, ◌∙◌, ℕ, ◌+◌, ◌*◌, ◌<◌, length, arith, List}
+use Rattle.std.proofs.Common.{sym, ap, subst, ◌∙◌, ℕ, ◌+◌, ◌*◌, ◌<◌, length, arith, List}
 use Rattle.ceu_tree.specs.declared.kernel.KArm.{KArm}
 use Rattle.ceu_tree.specs.declared.kernel.KStmt.{KStmt}
 use Rattle.ceu_shape.specs.Pieces.{Draft, Added}
 use Rattle.ceu_shape.specs.Plans.{plan_of}
 use Rattle.ceu_shape.specs.Shape.{node_draft}
 use Rattle.ceu_shape.specs.Flow.{if_draft}
-use Rattle.ceu_low_flow.specs.Conditions.{StmtFits, HasParts, HasRoom, part_count, label_count}
+use Rattle.ceu_low_flow.specs.Conditions.{StmtFits, HasRoom, part_count, label_count}
 use Rattle.ceu_low_flow.proofs.Adding.{on_ok, few_ports, if_parts, if_labels, if_drafted}
 use Rattle.ceu_low_flow.proofs.flow.lower_flow.Goals as goal
 

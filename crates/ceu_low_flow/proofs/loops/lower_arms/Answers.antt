@@ -1,4 +1,4 @@
-use Rattle.std.proofs.Common.{◌≡◌, ap, ◌∙◌, ℕ, ◌+◌, ◌*◌, List, [], ◌∷◌, ◌++◌}
+use Rattle.std.proofs.Common.{ap, ◌∙◌, ◌+◌, ◌*◌, List, [], ◌∷◌, ◌++◌}
 use Rattle.ceu_asm.specs.declared.line.Line.{Line}
 use Rattle.ceu_shape.specs.Words.{mark, goto, goto_if_false, begin_of, part}
 use Rattle.ceu_shape.specs.Flow.{arms_lines}

@@ -1,4 +1,4 @@
-use Rattle.std.proofs.Common.{◌≡◌, ap, ◌∙◌, ℕ, ◌+◌, ◌*◌, List, [], ◌∷◌, ◌++◌}
+use Rattle.std.proofs.Common.{ap, ◌∙◌, ℕ, [], ◌∷◌, ◌++◌}
 use Rattle.ceu_shape.specs.Words.{mark}
 use Rattle.ceu_shape.specs.Flow.{arm_ends}
 use Rattle.ceu_low_flow.proofs.Adding.{with_lines, ends_step}

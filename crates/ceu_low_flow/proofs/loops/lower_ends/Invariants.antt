@@ -1,4 +1,4 @@
-use Rattle.std.proofs.Common.{◌≡◌, ◌++◌, ◌+◌, ◌-◌, ◌*◌}
+use Rattle.std.proofs.Common.{◌≡◌, ◌++◌, ◌-◌, ◌*◌}
 use Rattle.ceu_shape.specs.Flow.{arm_ends}
 use Rattle.ceu_low_flow.proofs.loops.lower_ends.Given as goal
 

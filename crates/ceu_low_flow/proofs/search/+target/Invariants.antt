@@ -1,4 +1,4 @@
-use Rattle.std.proofs.Common.{◌≡◌, drop, ℕ, ◌+◌}
+use Rattle.std.proofs.Common.{◌≡◌, drop}
 use Rattle.ceu_tree.proofs.Sizes.{stmt_size, block_size, node_list_size, arm_size, arm_list_size, block_list_size}
 use Rattle.ceu_low_flow.specs.Lists.{node_list_target, arm_list_target, block_list_target}
 use Rattle.ceu_low_flow.proofs.search.+target.Given as goal

@@ -1,4 +1,4 @@
-use Rattle.std.proofs.Common.{◌≡◌, sym, ap, ◌∙◌, List, get_or}
+use Rattle.std.proofs.Common.{sym, ap, ◌∙◌, List, get_or}
 use Rattle.ceu_tree.specs.declared.kernel.KEvent.{KEvent}
 use Rattle.ceu_low_flow.proofs.Adding.{event_there, no_event, number_none, number_some}
 use Rattle.ceu_low_flow.proofs.search.event_number.Goals as goal

@@ -1,4 +1,4 @@
-use Rattle.std.proofs.Common.{◌≡◌, sym, ap, ◌∙◌, List, get_or}
+use Rattle.std.proofs.Common.{sym, ap, ◌∙◌, List, get_or}
 use Rattle.ceu_tree.specs.declared.kernel.KEvent.{KEvent}
 use Rattle.ceu_shape.specs.Searches.{ty_of_event}
 use Rattle.ceu_low_flow.proofs.Adding.{event_there, no_event}

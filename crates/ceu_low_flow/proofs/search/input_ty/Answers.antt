@@ -1,4 +1,4 @@
-use Rattle.std.proofs.Common.{◌≡◌, sym, ap, ◌∙◌, List, get_or}
+use Rattle.std.proofs.Common.{sym, ap, ◌∙◌, List, get_or}
 use Rattle.ceu_base.specs.declared.kinds.Port.{Port}
 use Rattle.ceu_shape.specs.Searches.{ty_or_none}
 use Rattle.ceu_low_flow.proofs.Adding.{port_there}

@@ -1,0 +1,4 @@
+pub mod Build
+pub mod Rows
+pub mod RowsCode
+pub mod RowsTime
