@@ -1,6 +1,6 @@
 // Files, standard input and standard output as the outside of the top call. Each counts the calls that failed and doesn't tell what it
 // holds.
-ghost use Rattle.std.specs.Prelude.{None, IfOk};
+ghost use Rattle.std.specs.Prelude.{◌≡◌, None, IfOk};
 ghost use Rattle.ceu_io.specs.Shelves.{IsWithin};
 
 use ceu_io::{Failed, Fetched, Shelf, ShelfError, Sink, Source};
@@ -18,7 +18,9 @@ pub struct FileShelf<'a, R: Files> {
 }
 
 impl<'a, R: Files> FileShelf<'a, R> {
-    pub fn new(files: &'a R) -> FileShelf<'a, R> {
+    pub fn new(files: &'a R) -> FileShelf<'a, R>
+        ensures unfailed { result.faults ≡ 0 }
+    {
         FileShelf { files, faults: 0 }
     }
 }
@@ -91,7 +93,9 @@ pub struct InputSource<F: Read + Drop> {
 }
 
 impl<F: Read + Drop> InputSource<F> {
-    pub fn new(reader: F) -> InputSource<F> {
+    pub fn new(reader: F) -> InputSource<F>
+        ensures unfailed { result.faults ≡ 0 }
+    {
         InputSource { reader, faults: 0 }
     }
 }
@@ -120,7 +124,9 @@ pub struct OutputSink<F: Write + Drop> {
 }
 
 impl<F: Write + Drop> OutputSink<F> {
-    pub fn new(writer: F) -> OutputSink<F> {
+    pub fn new(writer: F) -> OutputSink<F>
+        ensures unfailed { result.faults ≡ 0 }
+    {
         OutputSink { writer, faults: 0 }
     }
 }
