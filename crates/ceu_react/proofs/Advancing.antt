@@ -47,7 +47,7 @@ at_time image n k d m x e l =
       | Some time ↦ elim (nat_le time d) as (λ _. Config) [ true ↦ served image k d m time | false ↦ Waits (time_passed image d m) ]
     ]) l
 
-none_waits : (image : Image) (n k d : ℕ) (m : Machine) → n ≡ k + 1 → least_time image m.bytes ≡ None → advanced image n d (Waits m) ≡ Waits m
+pub none_waits : (image : Image) (n k d : ℕ) (m : Machine) → n ≡ k + 1 → least_time image m.bytes ≡ None → advanced image n d (Waits m) ≡ Waits m
 none_waits image n k d m e l = at_time image n k d m None e l
 
 comes_later : (image : Image) (n k d time : ℕ) (m : Machine) → n ≡ k + 1 → least_time image m.bytes ≡ Some time → d < time → advanced image n d (Waits m) ≡ Waits (time_passed image d m)

@@ -81,7 +81,7 @@ holds_waiting image mem s e h = subst (λ (t : State). Holds image mem t) e h
 
 -- ---- the array of zeros
 
-zeros_fresh : (n : ℕ) → 2 ≤ n → state_of (replicate n 0) ≡ 0
+pub zeros_fresh : (n : ℕ) → 2 ≤ n → state_of (replicate n 0) ≡ 0
 unfolding number_at
 zeros_fresh n h =
     let a : slice_index (replicate n 0) 0 ≡ 0 = get_or-replicate n 0 0 0 (omega arith) in

@@ -11,3 +11,4 @@ pub mod Keeping
 pub mod Timers
 pub mod Advancing
 pub mod Safe
+pub mod Examples

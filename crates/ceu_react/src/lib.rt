@@ -10,6 +10,8 @@ mod laws;
 mod reacting;
 mod rounds;
 mod session;
+#[cfg(test)]
+mod tests;
 
 pub use after::{After, State};
 pub use laws::{more_turns_change_nothing, next_turn_is_allowed, safe_is_kept};
