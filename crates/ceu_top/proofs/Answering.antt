@@ -6,6 +6,11 @@ use Rattle.ceu_base.specs.declared.kinds.Pos.{Pos}
 use Rattle.ceu_base.specs.declared.kinds.Rule.{Rule}
 use Rattle.ceu_bound.specs.PhaseB.{AreBounds}
 use Rattle.ceu_bound.specs.declared.bounds.Bounds.{Bounds}
+use Rattle.ceu_code.specs.Decoding.{IsCause}
+use Rattle.ceu_code.specs.Spelling.{Spells}
+use Rattle.ceu_code.specs.declared.decoding.DecodeError.{DecodeError}
+use Rattle.ceu_code.specs.declared.decoding.DecodeError.TheVariants as undecoded
+use Rattle.ceu_code.specs.declared.image.Image.{Image}
 use Rattle.ceu_compile.specs.Programs.{IsProgram, IsBroken}
 use Rattle.ceu_compile.specs.Trees.{HasTree, IsTreeRefusal}
 use Rattle.ceu_compile.specs.declared.errors.CompileError.{CompileError}
@@ -27,18 +32,19 @@ use Rattle.ceu_print.specs.Statements.{program_text}
 use Rattle.ceu_run.specs.Forms.{first_unbuilt}
 use Rattle.ceu_run.specs.Lines.{memory_line}
 use Rattle.ceu_run.specs.Runs.{RunPrints}
+use Rattle.ceu_show.specs.Shown.{show_text}
 use Rattle.ceu_tree.specs.Costs.{bounds}
 use Rattle.ceu_tree.specs.Needs.{memory}
 use Rattle.ceu_tree.specs.declared.kernel.Kernel.{Kernel}
 use Rattle.ceu_tree.specs.declared.source.Tree.{Tree}
 use Rattle.ceu_top.specs.Answering.{status_of, played_status, Written, IsWritten, PrintAnswer, IsPrintAnswer, Ran, RunAnswer, TextAnswer, IsTextAnswer, IsFileAnswer}
 use Rattle.ceu_top.specs.Fetching.{Files, answer_of, HasFetched, IsFetch}
-use Rattle.ceu_top.specs.Lines.{refusal_line}
+use Rattle.ceu_top.specs.Lines.{refusal_line, no_image_line}
 use Rattle.ceu_top.specs.Outcomes.{Names, Prints}
 use Rattle.ceu_top.specs.declared.status.Status.{Status}
 use Rattle.ceu_top.specs.declared.status.Status.TheVariants.{Done, Refused, Memory}
 use Rattle.ceu_top.specs.declared.words.Mode.{Mode}
-use Rattle.ceu_top.specs.declared.words.Mode.TheVariants.{Run, Check, Tidy}
+use Rattle.ceu_top.specs.declared.words.Mode.TheVariants.{Run, Check, Tidy, Show}
 
 -- what was told before a call
 told_old : {A : Type 0} (x y : Option A) (P : A → Type 0) → WhereTold x y (λ old new. P old) → IfSome x P
@@ -114,6 +120,7 @@ refusal_printed : (mode : Mode) (text : List ℕ) (rule : Rule) (place : Pos) �
 refusal_printed Run text rule place named script = (rule, place, named, refl)
 refusal_printed Check text rule place named script = (rule, place, named, refl)
 refusal_printed Tidy text rule place named script = (rule, place, named, refl)
+refusal_printed Show text rule place named script = absurd named
 
 pub refused_with : (mode : Mode) (text : List ℕ) (rule : Rule) (place : Pos) (status : Status) (held now : Option (List ℕ)) (o o' : ℕ)
     → Names mode text rule place → IsWritten (refusal_line rule place) Refused status held now o o' → IsPrintAnswer mode status text held now o o'
@@ -141,6 +148,17 @@ pub form_shown : (text form bytes : List ℕ) (tokens : List Token) (tree : Tree
     → HasTree text tokens tree → form ≡ program_text tree → bytes ≡ form → IsWritten bytes Done status held now o o' → IsPrintAnswer Tidy status text held now o o'
 form_shown text form bytes tokens tree status held now o o' has is same w =
     record { is = done_from Tidy text bytes status held now o o' (λ script. (tokens, tree, has, same ∙ is)) w.is }
+
+pub image_shown : (bytes : List ℕ) (image : Image) (status : Status) (held now : Option (List ℕ)) (o o' : ℕ)
+    → Spells image bytes → IsWritten (show_text image) Done status held now o o' → IsPrintAnswer Show status bytes held now o o'
+image_shown bytes image status held now o o' spells w =
+    record { is = done_from Show bytes (show_text image) status held now o o' (λ script. (image, spells, refl)) w.is }
+
+pub bytes_refused : (bytes : List ℕ) (e : DecodeError) (at : ℕ) (status : Status) (held now : Option (List ℕ)) (o o' : ℕ)
+    → IsCause bytes e → e ≡ undecoded.Bad at → IsWritten (no_image_line at) Refused status held now o o' → IsPrintAnswer Show status bytes held now o o'
+bytes_refused bytes e at status held now o o' cause is w =
+    let bad : IsCause bytes (undecoded.Bad at) = subst (λ x. IsCause bytes x) is cause in
+    record { is = refused_from Show bytes (no_image_line at) status held now o o' (λ script. (at, bad.0, bad.1, refl)) w.is }
 
 -- the script isn't read
 pub text_printed : {mode : Mode} {status : Status} {text : List ℕ} {left held now : Option (List ℕ)} {i o o' : ℕ}

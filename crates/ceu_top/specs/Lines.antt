@@ -1,4 +1,4 @@
--- The line of a refusal.
+-- The lines of refusals.
 use Rattle.std.specs.Prelude.{List, ℕ, ◌++◌, codes}
 use Rattle.std.specs.Fmt.{decimal}
 use Rattle.ceu_base.specs.declared.kinds.Pos.{Pos}
@@ -39,3 +39,7 @@ rule_name Z3 = codes "Z3"
 
 abbrev pub refusal_line : Rule → Pos → List ℕ
 refusal_line rule place = codes "refused " ++ rule_name rule ++ codes " " ++ decimal place.line ++ codes ":" ++ decimal place.col ++ codes "\n"
+
+-- Bytes that are no image, behind their longest beginning of one.
+abbrev pub no_image_line : ℕ → List ℕ
+no_image_line k = codes "refused I1 " ++ decimal k ++ codes "\n"

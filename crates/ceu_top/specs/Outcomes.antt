@@ -4,6 +4,8 @@ use Rattle.std.specs.Bool.{MatchBool}
 use Rattle.ceu_base.specs.declared.kinds.Pos.{Pos}
 use Rattle.ceu_base.specs.declared.kinds.Rule.{Rule}
 use Rattle.ceu_base.specs.declared.kinds.Rule.TheVariants.{B0}
+use Rattle.ceu_code.specs.Spelling.{LongestBeginning, Spells}
+use Rattle.ceu_code.specs.declared.image.Image.{Image}
 use Rattle.ceu_compile.specs.Programs.{IsProgram, Breaks}
 use Rattle.ceu_compile.specs.Trees.{HasTree, HasNoTree}
 use Rattle.ceu_driver.specs.Printing.{run_text}
@@ -18,17 +20,18 @@ use Rattle.ceu_print.specs.Statements.{program_text}
 use Rattle.ceu_run.specs.Forms.{first_unbuilt}
 use Rattle.ceu_run.specs.Lines.{memory_line}
 use Rattle.ceu_run.specs.Runs.{IsRun, IsCut, IsUpTo, lines_of}
+use Rattle.ceu_show.specs.Shown.{show_text}
 use Rattle.ceu_tree.specs.Costs.{bounds}
 use Rattle.ceu_tree.specs.Needs.{memory}
 use Rattle.ceu_tree.specs.declared.kernel.Kernel.{Kernel}
 use Rattle.ceu_tree.specs.declared.source.Tree.{Tree}
 use Rattle.ceu_top.specs.Command.{command_of}
 use Rattle.ceu_top.specs.Fetching.{Files}
-use Rattle.ceu_top.specs.Lines.{refusal_line}
+use Rattle.ceu_top.specs.Lines.{refusal_line, no_image_line}
 use Rattle.ceu_top.specs.declared.status.Status.{Status}
 use Rattle.ceu_top.specs.declared.status.Status.TheVariants.{Done, Refused, Words, Script, Fault, Read, Write, Memory, Absent, TooLong}
 use Rattle.ceu_top.specs.declared.words.Mode.{Mode}
-use Rattle.ceu_top.specs.declared.words.Mode.TheVariants.{Run, Check, Tidy}
+use Rattle.ceu_top.specs.declared.words.Mode.TheVariants.{Run, Check, Tidy, Show}
 
 -- ---- what is printed
 
@@ -44,11 +47,13 @@ IsRunnable text K = IsProgram text K × (first_unbuilt K ≡ None)
 abbrev pub RefusesToRun : List ℕ → Rule → Pos → Type 0
 RefusesToRun text rule place = Breaks text rule place ⊎ ((K : Kernel) × IsProgram text K × (rule ≡ B0) × (first_unbuilt K ≡ Some place))
 
--- The rule and the place that a mode names: `run` and `check` ask all rules, `tidy` those on tokens and on grammar alone.
+-- The rule and the place that a mode names: `run` and `check` ask all rules, `tidy` those on tokens and on grammar alone, `show`, which takes no
+-- text, none.
 abbrev pub Names : Mode → List ℕ → Rule → Pos → Type 0
 Names Run text rule place = RefusesToRun text rule place
 Names Check text rule place = Breaks text rule place
 Names Tidy text rule place = HasNoTree text rule place
+Names Show text rule place = ⊥
 
 -- The run of a text on a script, by the reference semantics.
 abbrev pub Runs : Played → (text script written : List ℕ) → Type 0
@@ -66,6 +71,14 @@ Tidies text written = (tokens : List Token) × (tree : Tree) × HasTree text tok
 abbrev pub Refuses : Mode → (text written : List ℕ) → Type 0
 Refuses mode text written = (rule : Rule) × (place : Pos) × Names mode text rule place × (written ≡ refusal_line rule place)
 
+-- The listing of the image that the bytes spell.
+abbrev pub Shows : (bytes written : List ℕ) → Type 0
+Shows bytes written = (image : Image) × Spells image bytes × (written ≡ show_text image)
+
+-- The bytes spell no image, and the first of them, so many at most, begin one.
+abbrev pub RefusesBytes : (bytes written : List ℕ) → Type 0
+RefusesBytes bytes written = (k : ℕ) × LongestBeginning k bytes × ((image : Image) → Spells image bytes → ⊥) × (written ≡ no_image_line k)
+
 -- what is printed in a mode with a status; `run` alone looks at the script
 abbrev pub Prints : Mode → Status → (text script written : List ℕ) → Type 0
 Prints Run Done text script written = Runs played.Done text script written
@@ -73,6 +86,8 @@ Prints Run Script text script written = Runs played.Script text script written
 Prints Run Fault text script written = Runs played.Fault text script written
 Prints Check Done text script written = Checks text written
 Prints Tidy Done text script written = Tidies text written
+Prints Show Done bytes script written = Shows bytes written
+Prints Show Refused bytes script written = RefusesBytes bytes written
 Prints mode Refused text script written = Refuses mode text written
 Prints _ _ text script written = ⊥
 

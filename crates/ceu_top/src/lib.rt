@@ -6,6 +6,7 @@ mod fetch;
 mod lines;
 mod refusal;
 mod running;
+mod showing;
 mod status;
 #[cfg(test)]
 mod tests;

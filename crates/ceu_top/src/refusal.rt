@@ -1,4 +1,4 @@
-// The line of a refusal.
+// The lines of refusals.
 ghost use Rattle.std.specs.Prelude.{◌≡◌, ◌≤◌, length, OnOk, OnErr};
 ghost use Rattle.ceu_io.specs.Counts.{HasCause};
 ghost use Rattle.ceu_io.specs.Bytes.{Appends, AppendsProperFront};
@@ -60,6 +60,19 @@ pub(crate) fn write_refusal<O: Sink>(out: &mut O, rule: Rule, pos: Pos) -> Resul
     add_number(&mut line, pos.line);
     add(&mut line, b":");
     add_number(&mut line, pos.col);
+    add(&mut line, b"\n");
+    write_all(out, line.as_slice())
+}
+
+/// The line of bytes that are no image, `at` being the length of their longest beginning of one.
+pub(crate) fn write_no_image<O: Sink>(out: &mut O, at: usize) -> Result<(), Failed>
+    ensures whole { OnOk result (Appends (spec.no_image_line at) (O.held out.old) (O.held out.new)) }
+    ensures front { OnErr result (AppendsProperFront (spec.no_image_line at) (O.held out.old) (O.held out.new)) }
+    ensures cause { HasCause (O.faults out.old) (O.faults out.new) result }
+{
+    let mut line = Line::new();
+    add(&mut line, b"refused I1 ");
+    add_number(&mut line, at);
     add(&mut line, b"\n");
     write_all(out, line.as_slice())
 }

@@ -1,6 +1,6 @@
 // The call over objects in memory.
 use crate::{Status, ceu};
-use ceu_io::{MemShelf, MemSink, MemSource};
+use ceu_io::{MemShelf, MemSink, MemSource, Source};
 use std::alloc::Global;
 use std::test::Fail;
 
@@ -9,6 +9,10 @@ const ECHO: &[u8] = b"input int A;\noutput int O;\nvar int x = await A;\nemit O(
 // Waits for a third `A` in the end.
 const TWICE: &[u8] =
     b"input int A; output int O;\nvar int x = await A; emit O(x);\nx = await A; emit O(x);\nawait A;\n";
+
+// The image of a program that pushes 1 and ends.
+const ONE: &[u8] =
+    b"CEU\x01\x01\0\0\0\0\0\x01\0\x01\0\0\0\0\0\0\0\0\0\0\0\x0c\0\x01\x07\x01\0\0\0\0\0\0\0\x0c\x0e";
 
 // How the objects behave: the most bytes that the script and the output move in a call, the bytes that the output has room for, and the
 // calls of the shelf, the script and the output that fail, from 1.
@@ -330,5 +334,88 @@ fn words_and_files(rt: HostRuntime) -> Result<(), Fail> {
         assert_eq!(rt; answer, *status);
         assert_eq!(rt; written.len(), 0);
     }
+    Ok(())
+}
+
+#[test]
+fn images_are_shown(rt: HostRuntime) -> Result<(), Fail> {
+    let second =
+        b"CEU\x02\x01\0\0\0\0\0\x01\0\x01\0\0\0\0\0\0\0\0\0\0\0\x0c\0\x01\x07\x01\0\0\0\0\0\0\0\x0c\x0e";
+    let longer =
+        b"CEU\x01\x01\0\0\0\0\0\x01\0\x01\0\0\0\0\0\0\0\0\0\0\0\x0c\0\x01\x07\x01\0\0\0\0\0\0\0\x0c\x0e\0";
+    let rows: [(&[u8], u32, Status, &[u8]); 7] = [
+        (
+            ONE,
+            0,
+            Status::Done,
+            b"memory 43 turns 1 levels 0\n0 push s32 1\n10 setv\n11 end\n",
+        ),
+        (
+            ONE,
+            3,
+            Status::Write,
+            b"memory 43 turns 1 levels 0\n0 push s32 1\n",
+        ),
+        (&ONE[..37], 0, Status::Refused, b"refused I1 37\n"),
+        (&ONE[..37], 1, Status::Write, b""),
+        (b"", 0, Status::Refused, b"refused I1 0\n"),
+        (second, 0, Status::Refused, b"refused I1 23\n"),
+        (longer, 0, Status::Refused, b"refused I1 38\n"),
+    ];
+    for (bytes, failing, status, printed) in &rows {
+        let outside = Outside {
+            fails: [0, 1, *failing],
+            ..AMPLE
+        };
+        let (answer, written) = call(
+            rt.alloc(),
+            &["ceu", "show", "p.ceu"],
+            bytes,
+            b"A 5",
+            &outside,
+        )?;
+        assert_eq!(rt; answer, *status);
+        assert_eq!(rt; written.as_slice(), *printed);
+    }
+    Ok(())
+}
+
+// The output fails long before the script does: what the reader hasn't taken stays there, and the failure behind it.
+#[test]
+fn a_script_is_left_behind_a_failed_write(rt: HostRuntime) -> Result<(), Fail> {
+    let mut script = Vec::new(rt.alloc());
+    for _ in 0..2000 {
+        script.extend_from_slice(b"A 1\n")?;
+    }
+    let mut words = Vec::new(rt.alloc());
+    for word in ["ceu", "run", "p.ceu"] {
+        words.push(String::from_str(rt.alloc(), word)?)?;
+    }
+    let mut shelf = MemShelf::new(rt.alloc());
+    shelf.put("p.ceu", TWICE)?;
+    let mut input = MemSource::new(script, 1, Vec::from_slice(rt.alloc(), &[5000])?);
+    let mut out = MemSink::new(rt.alloc(), 4096, 4096, Vec::from_slice(rt.alloc(), &[2])?)?;
+    let status = ceu(
+        rt.alloc(),
+        words.as_slice(),
+        &mut shelf,
+        &mut input,
+        &mut out,
+    );
+    assert_eq!(rt; status, Status::Write);
+    assert_eq!(rt; out.bytes(), b"memory 47 turns 1 levels 0\n");
+    let mut left = 0usize;
+    let mut failed = false;
+    let mut byte = [0u8];
+    for _ in 0..5000 {
+        if !failed {
+            match input.read(&mut byte) {
+                Ok(_) => left = left.saturating_add(1),
+                Err(_) => failed = true,
+            }
+        }
+    }
+    assert_eq!(rt; failed, true);
+    assert_eq!(rt; left >= 903, true);
     Ok(())
 }

@@ -11,6 +11,8 @@ pub enum Mode {
     Check,
     /// The program in the printer's form. The rules on tokens and on grammar alone are asked.
     Tidy,
+    /// The listing of the file as a compiled image.
+    Show,
 }
 
 #[tactic(auto, unfolding(crate::specs::Command::mode_of))]
@@ -23,6 +25,8 @@ fn mode_of(name: &str) -> Option<Mode>
         Some(Mode::Check)
     } else if name == "tidy" {
         Some(Mode::Tidy)
+    } else if name == "show" {
+        Some(Mode::Show)
     } else {
         None
     }

@@ -3,15 +3,19 @@ ghost use Rattle.std.specs.Prelude.{◌≡◌};
 ghost use Rattle.ceu_run.specs.Lines.{memory_line};
 ghost use Rattle.ceu_top.specs.Answering as spec;
 ghost use Rattle.ceu_top.specs.Answering.{IsWritten};
-ghost use Rattle.ceu_top.specs.Lines.{refusal_line};
+ghost use Rattle.ceu_code.specs.Spelling.{HasSpelling};
+ghost use Rattle.ceu_show.specs.Shown as shown;
+ghost use Rattle.ceu_top.specs.Lines.{refusal_line, no_image_line};
 
 use crate::lines::write_lines;
-use crate::refusal::write_refusal;
+use crate::refusal::{write_no_image, write_refusal};
 use crate::status::Status;
 use ceu_base::{Pos, Rule};
+use ceu_code::Image;
 use ceu_compile::Program;
 use ceu_io::{Failed, Sink};
 use ceu_run::write_memory;
+use ceu_show::show;
 
 fn status_of(written: Result<(), Failed>, whole: Status) -> Status
     ensures { result ≡ spec.status_of written whole }
@@ -43,4 +47,19 @@ pub(crate) fn show_text<O: Sink>(text: &[u8], out: &mut O) -> Status
     ensures { IsWritten text.now Status.Done result (O.held out.old) (O.held out.new) (O.faults out.old) (O.faults out.new) }
 {
     status_of(write_lines(out, text), Status::Done)
+}
+
+/// Writes the line of bytes that are no image, `at` being the length of their longest beginning of one.
+pub(crate) fn refuse_bytes<O: Sink>(at: usize, out: &mut O) -> Status
+    ensures { IsWritten (no_image_line at) Status.Refused result (O.held out.old) (O.held out.new) (O.faults out.old) (O.faults out.new) }
+{
+    status_of(write_no_image(out, at), Status::Refused)
+}
+
+/// Writes the listing of an image.
+pub(crate) fn show_image<O: Sink>(image: &Image, out: &mut O) -> Status
+    requires { HasSpelling image.now }
+    ensures { IsWritten (shown.show_text image.now) Status.Done result (O.held out.old) (O.held out.new) (O.faults out.old) (O.faults out.new) }
+{
+    status_of(show(image, out), Status::Done)
 }

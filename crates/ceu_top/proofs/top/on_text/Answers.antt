@@ -6,3 +6,6 @@ returns-in-Check-clause-answer g c = rw c.in-Check.is (text_printed c.check_text
 
 pub returns-in-Tidy-clause-answer : goal.returns-in-Tidy-clause-answer
 returns-in-Tidy-clause-answer g c = rw c.in-Tidy.is (text_printed c.tidy_text.ensures)
+
+pub returns-in-Show-clause-answer : goal.returns-in-Show-clause-answer
+returns-in-Show-clause-answer g c = rw c.in-Show.is (text_printed c.show_bytes.ensures)
