@@ -3,7 +3,7 @@
 pub enum Status {
     /// What the mode prints was written whole.
     Done,
-    /// The text breaks a rule, which was written.
+    /// The text breaks a rule, or the bytes are no image, which was written.
     Refused,
     /// The words are no command.
     Words,
