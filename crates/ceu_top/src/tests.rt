@@ -403,7 +403,7 @@ fn a_script_is_left_behind_a_failed_write(rt: HostRuntime) -> Result<(), Fail> {
         &mut out,
     );
     assert_eq!(rt; status, Status::Write);
-    assert_eq!(rt; out.bytes(), b"memory 47 turns 1 levels 0\n");
+    assert_eq!(rt; out.bytes(), b"memory 47 turns 1 levels 0\n".as_slice());
     let mut left = 0usize;
     let mut failed = false;
     let mut byte = [0u8];
