@@ -44,7 +44,7 @@ module _ (P : Known → Type 0) where
   first_found true e es x k h rest same = let one : e.1 ≡ k = cc in subst P one h
   first_found false e es x k h rest same = rest same
 
-  found_in : (es : List (List ℕ × Known)) (x : List ℕ) (k : Known) → Entries P es → found es x ≡ Some k → P k
+  pub found_in : (es : List (List ℕ × Known)) (x : List ℕ) (k : Known) → Entries P es → found es x ≡ Some k → P k
   found_in [] x k h e = absurd (cc)
   found_in (c ∷ es) x k h e = first_found (bytes_eq x c.0) c es x k h.0 (found_in es x k h.1) e
 
@@ -106,7 +106,7 @@ get_next (y ∷ xs) x ys = get_next xs x ys
 
 -- ---- what a use finds
 
-ok_some : {A : Type 0} (o : Option A) (n : Rule) (k : A) → ok_or o n ≡ Ok k → o ≡ Some k
+pub ok_some : {A : Type 0} (o : Option A) (n : Rule) (k : A) → ok_or o n ≡ Ok k → o ≡ Some k
 ok_some None n k e = absurd (cc)
 ok_some (Some j) n k e = let same : j ≡ k = cc in ap Some same
 
@@ -150,7 +150,7 @@ resolved_tests r scopes x k true true e c = always_err (λ k. (decl_of scopes x 
 resolved_tests r scopes x k true false e c = always_ok (λ k. (decl_of scopes x ≡ Ok k) × (takes r k.class ≡ true)) k (e, c)
 resolved_tests r scopes x k false b e c = always_err (λ k. (decl_of scopes x ≡ Ok k) × (takes r k.class ≡ true)) (N3, x.pos)
 
-resolved_decl : (r : Role) (scopes : List Scope) (x : Ident) → Always (λ k. (decl_of scopes x ≡ Ok k) × (takes r k.class ≡ true)) (resolved r scopes x)
+pub resolved_decl : (r : Role) (scopes : List Scope) (x : Ident) → Always (λ k. (decl_of scopes x ≡ Ok k) × (takes r k.class ≡ true)) (resolved r scopes x)
 unfolding resolved
 resolved_decl r scopes x = by_decl (decl_of scopes x) refl
   where
