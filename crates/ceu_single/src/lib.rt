@@ -1,0 +1,2 @@
+//! Programs of one trail, as a definition.
+#![tactic(auto)]
