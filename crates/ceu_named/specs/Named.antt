@@ -16,6 +16,10 @@ use Rattle.ceu_tree.specs.declared.kernel.KStmt.{KStmt, Row_of-KArm, end_of-KArm
 use Rattle.ceu_tree.specs.Proper.{Scope, InTrail, find, with_decls, with_turns, in_async, in_finalizer, is_loop_variable, is_alias, is_pool_of, alias_takes, looked_up, reads, asks, port_ty, event_at, event_seen}
 use Rattle.ceu_proper.specs.Shaped.{AllOf}
 
+-- in the body of the program, or of a code
+abbrev pub top_scope : Option ℕ → Scope
+top_scope code = record { code = code; seen = []; aims = []; place = InTrail }
+
 module _ (K : Kernel) where
   -- a variable of the outermost block that is read: the place stands in code, and the block has it with this type
   abbrev pub LocNamed : Scope → Loc → Type 0
@@ -74,12 +78,12 @@ module _ (K : Kernel) where
     StmtNamed sc (Spawn c es pool alias) = AllOf (ExpNamed sc) es × IsTrue (is_pool_of c (find pool sc.seen)) × MaybeAlias sc c pool alias
     StmtNamed sc (Kill c) = IsTrue (is_alias (find c sc.seen))
     StmtNamed sc (Unset c) = IsTrue (is_alias (find c sc.seen))
-    StmtNamed sc (Async b) = BlockNamed (in_async sc) b
-    StmtNamed sc (Finalize b) = BlockNamed (in_finalizer sc) b
+    StmtNamed sc (Async b) = BlockNamed (in_async K sc) b
+    StmtNamed sc (Finalize b) = BlockNamed (in_finalizer K sc) b
     StmtNamed sc (Do t b) = MaybeTarget sc t × BlockNamed sc b
     StmtNamed sc (Escape m e) = MaybeExp sc e
     StmtNamed sc (If' _ arms last) = ArmsNamed sc arms × BlockNamed sc last
-    StmtNamed sc (Loop k b) = TurnsNamed sc k × BlockNamed (with_turns k sc) b
+    StmtNamed sc (Loop k b) = TurnsNamed sc k × BlockNamed (with_turns K k sc) b
     StmtNamed sc (Par' k slot _ bs) = BlocksNamed sc bs
     StmtNamed sc _ = ⊤
 
@@ -100,10 +104,6 @@ module _ (K : Kernel) where
     pub BlocksNamed : {n : _} → Scope → Row_of-KBlock n → Type 0
     BlocksNamed sc end_of-KBlock = ⊤
     BlocksNamed sc (more_of-KBlock b rest) = BlockNamed sc b × BlocksNamed sc rest
-
-  -- in the body of the program, or of a code
-  abbrev pub top_scope : Option ℕ → Scope
-  top_scope code = record { code = code; seen = []; aims = []; place = InTrail }
 
   abbrev pub CodeNamed : ℕ → KCode → Type 0
   CodeNamed k c = BlockNamed (with_decls c.params (top_scope (Some k))) c.body
