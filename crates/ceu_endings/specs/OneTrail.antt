@@ -1,0 +1,33 @@
+-- Trees and turns of one trail (this project's own): under open blocks, do, if and loops there is one leaf, and no block has a registered finalizer or an
+-- instance.
+use Rattle.std.specs.Prelude.{◌≡◌, []}
+use Rattle.ceu_tree.specs.Residual.{Act, Residual, Run, WaitInput, WaitTime, WaitForever, Block, Open, Loop, no_instance}
+use Rattle.ceu_tree.specs.Focus.{Frame, OfBlock, OfOpen, OfLoop, Focus, Here, In}
+use Rattle.ceu_tree.specs.Run.{Config, Turning, Between, Waiting, Ended, Faulted}
+
+unfoldable pub OneLeaf : Residual → Type 0
+OneLeaf (Block b fin all r rest) = (fin ≡ []) × (all ≡ no_instance) × OneLeaf r
+OneLeaf (Open s r) = OneLeaf r
+OneLeaf (Loop s c r) = OneLeaf r
+OneLeaf (Run n a) = Unit {0}
+OneLeaf (WaitInput k s) = Unit {0}
+OneLeaf (WaitTime d s) = Unit {0}
+OneLeaf (WaitForever s) = Unit {0}
+OneLeaf r = ⊥
+
+abbrev pub PlainFrame : Frame → Type 0
+PlainFrame (OfBlock b fin all rest) = (fin ≡ []) × (all ≡ no_instance)
+PlainFrame (OfOpen s) = Unit {0}
+PlainFrame (OfLoop s c) = Unit {0}
+PlainFrame fr = ⊥
+
+unfoldable pub PlainFocus : Focus Act → Type 0
+PlainFocus (Here a) = Unit {0}
+PlainFocus (In fr f) = PlainFrame fr × PlainFocus f
+
+abbrev pub OneTrail : Config → Type 0
+OneTrail (Turning n f w) = PlainFocus f
+OneTrail (Between n r w) = OneLeaf r
+OneTrail (Waiting r w) = OneLeaf r
+OneTrail (Ended v w) = Unit {0}
+OneTrail (Faulted e w) = Unit {0}
