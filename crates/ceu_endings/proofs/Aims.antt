@@ -5,9 +5,11 @@ use Rattle.std.specs.List.{list_any}
 use Rattle.ceu_base.specs.declared.kinds.Ty.TheVariants as ty
 use Rattle.ceu_tree.specs.declared.kernel.Kernel.{Kernel}
 use Rattle.ceu_tree.specs.declared.kernel.KExp.{KExp}
+use Rattle.ceu_tree.specs.declared.kernel.KLoop.{KLoop}
+use Rattle.ceu_tree.specs.declared.kernel.KLoop.TheVariants as turns
 use Rattle.ceu_tree.specs.declared.kernel.Loc.{Loc}
 use Rattle.ceu_tree.specs.Leaf.{Exit, Escape, Break, Continue}
-use Rattle.ceu_tree.specs.Proper.{Scope, Aim, DoAim, BodyAim, LoopAim, do_aim, gives_if, escape_ok, is_loop_aim}
+use Rattle.ceu_tree.specs.Proper.{Scope, Aim, DoAim, BodyAim, LoopAim, do_aim, gives_if, escape_ok, is_loop_aim, with_turns}
 use Rattle.ceu_legal.specs.Shape.{aim_node}
 
 abbrev pub aims_at : Aim → ℕ → Exit → Type 0
@@ -49,6 +51,12 @@ module _ (K : Kernel) where
   pub do_node : (n : ℕ) (t : Option Loc) → aim_node (do_aim K n t) ≡ n
   do_node n None = refl
   do_node n (Some l) = refl
+
+  -- the turns of a loop add no aim but the loop's own
+  pub turns_aims : (k : KLoop) (sc : Scope) → (with_turns K k sc).aims ≡ sc.aims
+  turns_aims turns.Free sc = refl
+  turns_aims (turns.Times slot limit) sc = refl
+  turns_aims (turns.Range i next end open_a x y open_b) sc = refl
 
   -- only an escape leads to a do
   pub do_escapes : (n m : ℕ) (t : Option Loc) (x : Exit) → aims_at (do_aim K n t) m x → (v : ℤ) × (x ≡ Escape v)

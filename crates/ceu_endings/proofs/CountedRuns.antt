@@ -19,7 +19,7 @@ use Rattle.ceu_endings.proofs.CountedSteps.{OutcomeCounted, stepped_fine}
 
 -- ---- leaves that become others
 
-by_time_kept : (delay : ℕ) (r : Residual) → tree_counted r → tree_counted (by_time delay r)
+pub by_time_kept : (delay : ℕ) (r : Residual) → tree_counted r → tree_counted (by_time delay r)
 unfolding tree_counted
 by_time_kept delay (WaitTime left s) h = go (left == 0)
   where
@@ -28,12 +28,12 @@ by_time_kept delay (WaitTime left s) h = go (left == 0)
     go false = tt
 by_time_kept delay r h = h
 
-later_kept : (d : ℕ) (r : Residual) → tree_counted r → tree_counted (later d r)
+pub later_kept : (d : ℕ) (r : Residual) → tree_counted r → tree_counted (later d r)
 unfolding tree_counted
 later_kept d (WaitTime left s) h = tt
 later_kept d r h = h
 
-by_input_kept : (k : ℕ) (v : ℤ) (r : Residual) → tree_counted r → tree_counted (by_input k v r)
+pub by_input_kept : (k : ℕ) (v : ℤ) (r : Residual) → tree_counted r → tree_counted (by_input k v r)
 unfolding tree_counted
 by_input_kept k v (WaitInput m s) h = go (m == k)
   where
@@ -42,7 +42,7 @@ by_input_kept k v (WaitInput m s) h = go (m == k)
     go false = tt
 by_input_kept k v r h = h
 
-round_kept : (r : Residual) → tree_counted r → tree_counted (new_round r)
+pub round_kept : (r : Residual) → tree_counted r → tree_counted (new_round r)
 unfolding tree_counted
 round_kept (InAsync s served r) h = h
 round_kept r h = h
@@ -85,7 +85,7 @@ module _ (K : Kernel) where
   next_kept (Ended v w) h = h
   next_kept (Faulted e w) h = h
 
-  steps_kept : (k : ℕ) (c : Config) → Counted c → Counted (steps K k c)
+  pub steps_kept : (k : ℕ) (c : Config) → Counted c → Counted (steps K k c)
   unfolding steps
   steps_kept zero c h = h
   steps_kept (suc k) (Turning n f w) h = steps_kept k (next K (Turning n f w)) (next_kept (Turning n f w) h)

@@ -22,3 +22,4 @@ pub mod Calm
 pub mod Reacting
 pub mod Marks
 pub mod StepMarks
+pub mod Running

@@ -1,7 +1,6 @@
 -- A turn of a program of one trail is over after so many steps as its place costs, wherever in it the trail is.
-use Rattle.std.proofs.Common.{◌≡◌, refl, sym, ap, ◌∙◌, subst, ◌≤◌, ℕ, suc, ◌+◌, ◌*◌, Bool, true, false, ◌==◌, List, [], ◌∷◌, ◌++◌, Option, Some, None, arith}
+use Rattle.std.proofs.Common.{◌≡◌, sym, ap, ◌∙◌, subst, ◌≤◌, ℕ, suc, ◌+◌, ◌*◌, Bool, true, false, ◌==◌, List, [], ◌∷◌, ◌++◌, Option, Some, None, arith}
 use Rattle.ceu_tree.specs.declared.kernel.Kernel.{Kernel}
-use Rattle.ceu_tree.specs.declared.kernel.KCode.{KCode}
 use Rattle.ceu_tree.specs.declared.kernel.KLoop.{KLoop}
 use Rattle.ceu_tree.specs.declared.kernel.KLoop.TheVariants as turns
 use Rattle.ceu_tree.specs.declared.kernel.KNode.{KNode}
@@ -11,13 +10,15 @@ use Rattle.ceu_tree.specs.declared.kernel.KStmt.TheOpen.{KStmt-F}
 use Rattle.ceu_tree.specs.Residual.{Body, Act, Begin, Start, Finish, AtEnd, AtHead, Again, Counter, Free, Turns, Upward, Instances, no_instance}
 use Rattle.ceu_tree.specs.Focus.{Frame, OfBlock, OfOpen, OfLoop, Focus, Here, In, leaf}
 use Rattle.ceu_tree.specs.World.{World}
-use Rattle.ceu_tree.specs.Leaf.{Exit, Escape, Break, Continue, code_at}
+use Rattle.ceu_tree.specs.Leaf.{Exit, Escape, Break, Continue}
 use Rattle.ceu_tree.specs.Around.{Outcome, Goes, Past, Registers, AtLoopHead, Ends, Leaves, turn_of, next_turn, body_left, loop_left, up}
 use Rattle.ceu_tree.specs.Paths.{constant_bound, quick_block, quick_list}
-use Rattle.ceu_tree.specs.Proper.{Scope, Aim, LoopAim, with_turns}
+use Rattle.ceu_tree.specs.Proper.{Scope, Aim, LoopAim}
 use Rattle.ceu_legal.specs.Shape.{Part, ABlock, AStatement, AnEnd, counts, FrameFits, around_statement, around_end, around_instance, around_part, around_turn, around_call, around_branch, Around, nothing_around, one_around, ActFits, begins, heads, goes_again, starts, finishes, ends}
 use Rattle.ceu_endings.specs.Counted.{counted, turns_counted, turns_left, at_most, focus_counted}
 use Rattle.ceu_endings.proofs.Local.{Settles, local, Halts, halts_weaker, halts_first, settles_more, Answers, halts_in}
+use Rattle.ceu_endings.proofs.Aims.{turns_aims}
+use Rattle.ceu_endings.proofs.Shapes.{no_code_at}
 use Rattle.ceu_endings.proofs.Fine.{bound_fine, stmt_fine, block_fine, turns_at_most, stmt_cost, block_cost, block_cost_is, list_cost}
 use Rattle.ceu_endings.proofs.Layers.{LayerFine, ListFine, layer_cost, cost_layer, cost_positive, fine_layer, fine_list, fine_at, part_fine}
 use Rattle.ceu_endings.proofs.Opened.{EachHalts, list_halts, begun_halts, any_takes, open_any}
@@ -121,14 +122,6 @@ module _ (K : Kernel) (level : ℕ) (no_code : K.codes ≡ []) where
   layer_fine : (sc : Scope) (s : KNode) (layer : _) → out-KStmt s.stmt ≡ layer → stmt_fine K sc.aims s.node s.stmt → LayerFine K sc.aims s.node layer
   layer_fine sc s layer e h = subst (LayerFine K sc.aims s.node) e (fine_layer K sc.aims s.node s.stmt h)
 
-  turns_aims : (k : KLoop) (sc : Scope) → (with_turns K k sc).aims ≡ sc.aims
-  turns_aims turns.Free sc = refl
-  turns_aims (turns.Times slot limit) sc = refl
-  turns_aims (turns.Range i next end open_a x y open_b) sc = refl
-
-  pub no_code_at : (n : ℕ) (k : KCode) → code_at n K.codes ≡ Some k → ⊥
-  no_code_at n k e = let z : code_at n [] ≡ Some k = subst (λ cs. code_at n cs ≡ Some k) no_code e in absurd (cc)
-
   frame_halts : {t : ℕ} {fr : Frame} {d e : Part} → FrameFits K t fr d e → PartFine K d → (f : Focus Act) → focus_counted (In fr f) → (body : Body) (w : World)
       → (PartFine K e → (u : Body) → Halts K level Any u (part_cost e) f w) → Halts K level Any body (part_cost d) (In fr f) w
   unfolding focus_counted
@@ -151,10 +144,10 @@ module _ (K : Kernel) (level : ℕ) (no_code : K.codes ≡ []) where
       weaker_any Any body (block_cost b + suc m) (stmt_cost s.stmt) (In (OfLoop s j) f) w (let e = cost_layer s.stmt ∙ ap layer_cost q in omega (arith, e))
       (halts_in K level Any Any body (block_cost b) (suc m) (OfLoop s j) f w
       (loop_any s k b q sc.aims (block_halts K level (LoopAim s.node ∷ sc.aims) b p.1 (block_each K level (LoopAim s.node ∷ sc.aims) b p.2)) p.0 body j o (subst (λ l. counted l j) q c.0))
-      (ih (subst (λ y. block_fine K (LoopAim s.node ∷ y) b) (sym (turns_aims k sc)) p.2) body))
+      (ih (subst (λ y. block_fine K (LoopAim s.node ∷ y) b) (sym (turns_aims K k sc)) p.2) body))
   frame_halts (around_call {sc = sc} {s = s} m es g t k q o) h f c body w ih = absurd (layer_fine sc s _ q h)
   frame_halts (around_branch {sc = sc} {s = s} k slot bs b cs q x y) h f c body w ih = absurd (layer_fine sc s _ q h)
-  frame_halts (around_instance {seat = seat} done k q z i x y p o) h f c body w ih = absurd (no_code_at seat.code k o)
+  frame_halts (around_instance {seat = seat} done k q z i x y p o) h f c body w ih = absurd (no_code_at K no_code seat.code k o)
 
   pub around_halts : {t : ℕ} {f : Focus Act} {d e : Part} → Around K t Act f d e → ActFits e (leaf f) → PartFine K d → focus_counted f → (body : Body) (w : World) → Halts K level Any body (part_cost d) f w
   unfolding focus_counted

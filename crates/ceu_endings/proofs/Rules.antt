@@ -6,7 +6,6 @@ use Rattle.ceu_base.specs.declared.kinds.Pos.{Pos}
 use Rattle.ceu_base.specs.declared.kinds.Rule.TheVariants.{B1, B3}
 use Rattle.ceu_tree.specs.declared.kernel.Kernel.{Kernel}
 use Rattle.ceu_tree.specs.declared.kernel.KLoop.{KLoop}
-use Rattle.ceu_tree.specs.declared.kernel.KLoop.TheVariants as turns
 use Rattle.ceu_tree.specs.declared.kernel.KArm.{KArm, KArm'}
 use Rattle.ceu_tree.specs.declared.kernel.KBlock.{KBlock, KBlock', out-KBlock, Row_of-KNode, end_of-KNode, more_of-KNode}
 use Rattle.ceu_tree.specs.declared.kernel.KStmt.{KStmt, Row_of-KArm, end_of-KArm, more_of-KArm, Nothing, Assign, Out, AwaitIn, AwaitTime, AwaitEvent, Forever, Do, Escape, Break, Continue, If', Loop}
@@ -19,7 +18,7 @@ use Rattle.ceu_paths.specs.Loops.{TrailLoop, trail_loop, loops, block_loops, arm
 use Rattle.ceu_bound.specs.PhaseB.{all_loops, goes_round, KeepsLoopRules}
 use Rattle.ceu_single.specs.Single.{stmt_single, block_single, arm_single, nodes_single, arms_single}
 use Rattle.ceu_endings.proofs.Among.{rounds}
-use Rattle.ceu_endings.proofs.Aims.{Below, below_more, do_node, escape_leads, loop_leads}
+use Rattle.ceu_endings.proofs.Aims.{Below, below_more, do_node, escape_leads, loop_leads, turns_aims}
 use Rattle.ceu_endings.proofs.Fine.{bound_fine, stmt_fine, block_fine, arm_fine, nodes_fine, arms_fine}
 use denote.Hole.Carrier
 
@@ -101,11 +100,6 @@ module _ (K : Kernel) (no_code : K.codes ≡ []) (keeps : KeepsLoopRules K) wher
   inside_more : (x : TrailLoop) (ys : List TrailLoop) → Inside (x ∷ ys) → Inside ys
   inside_more x ys h = inside_right (x ∷ []) ys h
 
-  turns_aims : (k : KLoop) (sc : Scope) → (with_turns K k sc).aims ≡ sc.aims
-  turns_aims turns.Free sc = refl
-  turns_aims (turns.Times slot limit) sc = refl
-  turns_aims (turns.Range i next end open_a x y open_b) sc = refl
-
   module _ (names : List (List ℕ)) where
     mutual
       unfolding stmt_fine stmt_ok stmt_single stmt_nodes loops
@@ -145,9 +139,9 @@ module _ (K : Kernel) (no_code : K.codes ≡ []) (keeps : KeepsLoopRules K) wher
             below,
             loop_keeps (trail_loop n p k b) (i (trail_loop n p k b) (0, omega arith, refl)) one,
             below_more (LoopAim n ∷ sc.aims) (n + 1) (out-KBlock b).node (omega (arith, at)) inner,
-            subst (λ y. block_fine K (LoopAim n ∷ y) b) (turns_aims k sc)
+            subst (λ y. block_fine K (LoopAim n ∷ y) b) (turns_aims K k sc)
                 (block_is (with_aim (LoopAim n) (with_turns K k sc)) b (n + 1) (and_parts _ (block_ok K names (with_aim (LoopAim n) (with_turns K k sc)) b) ok).1 c one (inside_more (trail_loop n p k b) (block_loops b) i)
-                (subst (λ y. Below (LoopAim n ∷ y) (n + 1 + 1)) (sym (turns_aims k sc)) (below_more (LoopAim n ∷ sc.aims) (n + 1) (n + 1 + 1) (omega arith) inner))),
+                (subst (λ y. Below (LoopAim n ∷ y) (n + 1 + 1)) (sym (turns_aims K k sc)) (below_more (LoopAim n ∷ sc.aims) (n + 1) (n + 1 + 1) (omega arith) inner))),
           )
       stmt_is sc n p st ok c one i below = absurd (false≢true one)
 

@@ -121,13 +121,13 @@ module _ (K : Kernel) (no_code : K.codes ≡ []) where
   layer_is : (s : KNode) (layer : Layer) → out-KStmt s.stmt ≡ layer → stmt_single s.stmt ≡ true → LayerSingle layer
   layer_is s layer e h = subst LayerSingle e (layer_single s.stmt h)
 
-  pub one_leaf : {t : ℕ} {d : Part} {r : Residual} → Fits K t d r → PartSingle d → OneLeaf r
+  pub one_leaf : {t : ℕ} {d : Part} {r : Residual} → Fits K t d r → PartSingle d → OneLeaf t r
   unfolding OneLeaf
-  one_leaf (to_begin l) h = tt
-  one_leaf (to_turn l p) h = tt
+  one_leaf (to_begin l) h = l
+  one_leaf (to_turn l p) h = l
   one_leaf (in_list {b = b} {rest = rest} {s = s} done q z i more) h =
       let ss = subst ListSingle q (list_single b h) in (z ∙ none_found [] done (s ∷ rest) ss refl, none_live i, one_leaf more (single_at done s rest ss))
-  one_leaf (to_finish l p) h = tt
+  one_leaf (to_finish l p) h = l
   one_leaf (at_input t e) h = tt
   one_leaf (at_time x u t e) h = tt
   one_leaf (at_event {s = s} t e) h = absurd (layer_is s _ e h)

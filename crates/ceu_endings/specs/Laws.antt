@@ -8,6 +8,7 @@ use Rattle.ceu_tree.specs.Residual.{Act, Residual}
 use Rattle.ceu_tree.specs.Focus.{Focus, choose}
 use Rattle.ceu_tree.specs.World.{World}
 use Rattle.ceu_tree.specs.Wake.{runs_at}
+use Rattle.ceu_tree.specs.Costs.{bounds}
 use Rattle.ceu_tree.specs.Proper.{Proper}
 use Rattle.ceu_tree.specs.Run.{Config, Turning, Between, world_of, booted, next, steps, done, run}
 use Rattle.ceu_legal.specs.Shape.{ConfigFits}
@@ -49,6 +50,15 @@ Settled c = Unit {0}
 abbrev pub OneTurn : Type 0
 OneTurn = (K : Kernel) (k : ℕ) (f : Focus Act) (w : World) → Proper K → Single K → ConfigFits K (Turning 0 f w) → is_turning (steps K k (Turning 0 f w)) ≡ false → Settled (steps K k (Turning 0 f w))
 
+-- all of a reaction is at level 0
+abbrev pub AtLevelZero : Config → Type 0
+AtLevelZero (Turning n f w) = n ≡ zero
+AtLevelZero (Between n r w) = n ≡ zero
+AtLevelZero c = Unit {0}
+
+abbrev pub OneLevel : Type 0
+OneLevel = (K : Kernel) (k : ℕ) (r : Residual) (w : World) → Proper K → Single K → ConfigFits K (Between 0 r w) → AtLevelZero (steps K k (Between 0 r w))
+
 -- turns that begin, levels that open and levels that close
 abbrev pub resumes : List Mark → ℕ
 resumes [] = 0
@@ -67,3 +77,7 @@ pub record Reaction (w u : World) : Type 0 where
 
 abbrev pub OneTurnAReaction : Type 0
 OneTurnAReaction = (K : Kernel) (k : ℕ) (r : Residual) (w : World) → Proper K → Single K → ConfigFits K (Between 0 r w) → Reaction w (world_of (steps K k (Between 0 r w)))
+
+-- one turn is within the bounds of every program
+abbrev pub OneTurnInBounds : Type 0
+OneTurnInBounds = (K : Kernel) → 1 ≤ (bounds K).turns

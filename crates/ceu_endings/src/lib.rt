@@ -3,8 +3,8 @@
 //! A program of one trail has no code, par, async, finalizer or internal event (`Single`), so a reaction of it is one turn.
 #![tactic(auto)]
 
-ghost use Rattle.ceu_endings.specs.Ends.{ReactionsEnd, TurnsEnd};
-ghost use Rattle.ceu_endings.specs.Laws.{BootCounted, CommandCounted, HasOneTrail, OneTurn, OneTurnAReaction, RunCounted, StepCounted};
+ghost use Rattle.ceu_endings.specs.Ends.{CommandsEnd, ReactionsEnd, RunsEnd, RunsHaveOutcomes, TurnsEnd};
+ghost use Rattle.ceu_endings.specs.Laws.{BootCounted, CommandCounted, HasOneTrail, OneLevel, OneTurn, OneTurnAReaction, OneTurnInBounds, RunCounted, StepCounted};
 
 /// A configuration that fits a kernel of one trail has one leaf, under open blocks, do, if and loops, and no block has a finalizer or an instance.
 pub fn one_trail()
@@ -46,7 +46,32 @@ pub fn one_turn_a_reaction()
     ensures { OneTurnAReaction }
 {}
 
-/// and every reaction ends.
+/// all of it is at level 0,
+pub fn one_level()
+    ensures { OneLevel }
+{}
+
+/// it is within the bound on turns of every program,
+pub fn one_turn_in_bounds()
+    ensures { OneTurnInBounds }
+{}
+
+/// and it ends within so many steps.
 pub fn reactions_end()
     ensures { ReactionsEnd }
+{}
+
+/// With that bound on each reaction commands end,
+pub fn commands_end()
+    ensures { CommandsEnd }
+{}
+
+/// and so does every run.
+pub fn runs_end()
+    ensures { RunsEnd }
+{}
+
+/// So every run of such a program has an outcome: its marks and its status.
+pub fn runs_have_outcomes()
+    ensures { RunsHaveOutcomes }
 {}
