@@ -24,7 +24,7 @@ use Rattle.ceu_tree.specs.Leaf as does
 use Rattle.ceu_tree.specs.Leaf.{Layer, Exit, Escape, Break, Continue, Does, Opens, Waits, Passes, Kills, Done, or_fails, microseconds, clamped, code_at, chosen_part, branches_from, in_branches, loop_reached, called, spawning, killing, started, next_of, rest_of, acted}
 use Rattle.ceu_tree.specs.Around.{Outcome, Goes, Rests, Raises, Fails, Past, Registers, AtBlockEnd, AtLoopHead, Ends, Leaves, Moved, body_left, open_left, again, begins_turn, turn_of, next_turn, loop_exit, loop_left, all_over, kind_of, rejoined, through, up, taken, answered}
 use Rattle.ceu_tree.specs.Step.{event_code, size_in, free_place, with_instance, seated_if, seat_frame, seated, spawned_at, spawned, unseated, unseat_frame, unseat, killed, does_in, stepped}
-use Rattle.ceu_endings.specs.Counted.{turns_counted, counted, tree_counted, each_counted, all_counted, frame_counted, focus_counted}
+use Rattle.ceu_endings.specs.Counted.{turns_counted, layer_counted, tree_counted, each_counted, all_counted, frame_counted, focus_counted}
 use Rattle.ceu_tree.specs.Paths.{constant_bound}
 use Rattle.ceu_endings.proofs.Turns.{turn_fewer, turns_begin}
 use Rattle.ceu_endings.proofs.CountedTrees.{joined, joined_all, filled, plugged, grafted, woken_kept}
@@ -48,13 +48,13 @@ open_left_fine : (t : Bool) (s : KNode) (f : Focus Act) (body : Body) (node : �
 open_left_fine true s f body node x w = tt
 open_left_fine false s f body node x w = tt
 
-again_fine : (s : KNode) (c : Counter) (w : World) → counted (out-KStmt s.stmt) c → Fine (again s c w)
+again_fine : (s : KNode) (c : Counter) (w : World) → layer_counted (out-KStmt s.stmt) c → Fine (again s c w)
 unfolding focus_counted
 again_fine s c w h = (h, tt)
 
-begins_fine : (s : KNode) (c : Counter) (b : KBlock) (layer : Layer) (w : World) → out-KStmt s.stmt ≡ layer → counted layer c → Fine (begins_turn s c b w)
+begins_fine : (s : KNode) (c : Counter) (b : KBlock) (layer : Layer) (w : World) → out-KStmt s.stmt ≡ layer → layer_counted layer c → Fine (begins_turn s c b w)
 unfolding focus_counted
-begins_fine s c b layer w e h = (subst (λ l. counted l c) (sym e) h, tt)
+begins_fine s c b layer w e h = (subst (λ l. layer_counted l c) (sym e) h, tt)
 
 either : (b : Bool) (x y : Moved) → (b ≡ true → Fine x) → (b ≡ false → Fine y) → Fine (if b then x else y)
 either true x y h k = h refl
@@ -66,16 +66,16 @@ turn_fine s (turns.Times slot limit) b (Turns j) body w e h =
 turn_fine s (turns.Range i next end open_a x y open_b) b (Upward v last) body w e h = either (int_lt last v) _ _ (λ q. tt) (λ q. begins_fine s (Upward (v +ℤ pos 1) last) b _ (set body i (Holds v) w) e (turn_fewer (constant_bound (turns.Range i next end open_a x y open_b)) v last q h))
 turn_fine s k b c body w e h = begins_fine s c b _ w e h
 
-next_turn_fine : (s : KNode) (layer : Layer) (c : Counter) (body : Body) (w : World) → out-KStmt s.stmt ≡ layer → counted layer c → Fine (next_turn s layer c body w)
+next_turn_fine : (s : KNode) (layer : Layer) (c : Counter) (body : Body) (w : World) → out-KStmt s.stmt ≡ layer → layer_counted layer c → Fine (next_turn s layer c body w)
 next_turn_fine s (KStmt-F.Loop k b) c body w e h = turn_fine s k b c body w e h
 next_turn_fine s layer c body w e h = tt
 
-loop_exit_fine : (s : KNode) (c : Counter) (x : Exit) (body : Body) (w : World) → counted (out-KStmt s.stmt) c → Fine (loop_exit s c x body w)
+loop_exit_fine : (s : KNode) (c : Counter) (x : Exit) (body : Body) (w : World) → layer_counted (out-KStmt s.stmt) c → Fine (loop_exit s c x body w)
 loop_exit_fine s c Continue body w h = again_fine s c w h
 loop_exit_fine s c Break body w h = tt
 loop_exit_fine s c (Escape v) body w h = tt
 
-loop_left_fine : (t : Bool) (s : KNode) (c : Counter) (f : Focus Act) (body : Body) (node : ℕ) (x : Exit) (w : World) → counted (out-KStmt s.stmt) c → Fine (loop_left t s c f body node x w)
+loop_left_fine : (t : Bool) (s : KNode) (c : Counter) (f : Focus Act) (body : Body) (node : ℕ) (x : Exit) (w : World) → layer_counted (out-KStmt s.stmt) c → Fine (loop_left t s c f body node x w)
 loop_left_fine true s c f body node x w h = loop_exit_fine s c x body _ h
 loop_left_fine false s c f body node x w h = tt
 
@@ -151,10 +151,10 @@ branches_fine n s (b ∷ bs) = ((tt, fresh_branches n bs), tt)
 
 loop_fine : (s : KNode) (k : KLoop) (b : KBlock) (body : Body) (w : World) → out-KStmt s.stmt ≡ KStmt-F.Loop k b → DoesCounted (loop_reached s k body w).does
 unfolding focus_counted
-loop_fine s turns.Free b body w e = (subst (λ l. counted l Free) (sym e) tt, tt)
-loop_fine s (turns.Times slot n) b body w e = (subst (λ l. counted l (Turns 0)) (sym e) (omega arith), tt)
+loop_fine s turns.Free b body w e = (subst (λ l. layer_counted l Free) (sym e) tt, tt)
+loop_fine s (turns.Times slot n) b body w e = (subst (λ l. layer_counted l (Turns 0)) (sym e) (omega arith), tt)
 loop_fine s (turns.Range i next end open_a x y open_b) b body w e = or_fails_same (value_of x body w) w _ (λ u p. or_fails_same (value_of y body w) w _ (λ v q. (
-  subst (λ l. counted l (Upward (u +ℤ of_test open_a) (v -ℤ of_test open_b))) (sym e) (turns_begin x y open_a open_b u v body w p q),
+  subst (λ l. layer_counted l (Upward (u +ℤ of_test open_a) (v -ℤ of_test open_b))) (sym e) (turns_begin x y open_a open_b u v body w p q),
   tt,
 )))
 

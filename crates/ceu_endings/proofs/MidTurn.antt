@@ -15,7 +15,7 @@ use Rattle.ceu_tree.specs.Around.{Outcome, Goes, Past, Registers, AtLoopHead, En
 use Rattle.ceu_tree.specs.Paths.{constant_bound, quick_block, quick_list}
 use Rattle.ceu_tree.specs.Proper.{Scope, Aim, LoopAim}
 use Rattle.ceu_legal.specs.Shape.{Part, ABlock, AStatement, AnEnd, counts, FrameFits, around_statement, around_end, around_instance, around_part, around_turn, around_call, around_branch, Around, nothing_around, one_around, ActFits, begins, heads, goes_again, starts, finishes, ends}
-use Rattle.ceu_endings.specs.Counted.{counted, turns_counted, turns_left, at_most, focus_counted}
+use Rattle.ceu_endings.specs.Counted.{layer_counted, turns_counted, turns_left, at_most, focus_counted}
 use Rattle.ceu_endings.proofs.Local.{Settles, local, Halts, halts_weaker, halts_first, settles_more, Answers, halts_in}
 use Rattle.ceu_endings.proofs.Aims.{turns_aims}
 use Rattle.ceu_endings.proofs.Shapes.{no_code_at}
@@ -143,7 +143,7 @@ module _ (K : Kernel) (level : ℕ) (no_code : K.codes ≡ []) where
       let m = turns_at_most (constant_bound k) * suc (block_cost b) in
       weaker_any Any body (block_cost b + suc m) (stmt_cost s.stmt) (In (OfLoop s j) f) w (let e = cost_layer s.stmt ∙ ap layer_cost q in omega (arith, e))
       (halts_in K level Any Any body (block_cost b) (suc m) (OfLoop s j) f w
-      (loop_any s k b q sc.aims (block_halts K level (LoopAim s.node ∷ sc.aims) b p.1 (block_each K level (LoopAim s.node ∷ sc.aims) b p.2)) p.0 body j o (subst (λ l. counted l j) q c.0))
+      (loop_any s k b q sc.aims (block_halts K level (LoopAim s.node ∷ sc.aims) b p.1 (block_each K level (LoopAim s.node ∷ sc.aims) b p.2)) p.0 body j o (subst (λ l. layer_counted l j) q c.0))
       (ih (subst (λ y. block_fine K (LoopAim s.node ∷ y) b) (sym (turns_aims K k sc)) p.2) body))
   frame_halts (around_call {sc = sc} {s = s} m es g t k q o) h f c body w ih = absurd (layer_fine sc s _ q h)
   frame_halts (around_branch {sc = sc} {s = s} k slot bs b cs q x y) h f c body w ih = absurd (layer_fine sc s _ q h)

@@ -24,15 +24,15 @@ turns_counted (turns.Times slot limit) (Turns k) = k ≤ limit
 turns_counted (turns.Range i next end open_a a b open_b) (Upward at last) = at_most (constant_bound (turns.Range i next end open_a a b open_b)) (turns_left at last)
 turns_counted k c = Unit {0}
 
-abbrev pub counted : Layer → Counter → Type 0
-counted (KStmt-F.Loop k b) c = turns_counted k c
-counted layer c = Unit {0}
+abbrev pub layer_counted : Layer → Counter → Type 0
+layer_counted (KStmt-F.Loop k b) c = turns_counted k c
+layer_counted layer c = Unit {0}
 
 unfoldable mutual
   pub tree_counted : Residual → Type 0
   tree_counted (Block b fin all r rest) = all_counted all × tree_counted r
   tree_counted (Open s r) = tree_counted r
-  tree_counted (Loop s c r) = counted (out-KStmt s.stmt) c × tree_counted r
+  tree_counted (Loop s c r) = layer_counted (out-KStmt s.stmt) c × tree_counted r
   tree_counted (Call s r) = tree_counted r
   tree_counted (Par s bs) = each_counted bs
   tree_counted (InAsync s served r) = tree_counted r
@@ -50,7 +50,7 @@ abbrev pub frame_counted : Frame → Type 0
 frame_counted (OfBlock b fin all rest) = all_counted all
 frame_counted (OfInstance b fin front seat back r rest) = all_counted front × all_counted back × tree_counted r
 frame_counted (OfOpen s) = Unit {0}
-frame_counted (OfLoop s c) = counted (out-KStmt s.stmt) c
+frame_counted (OfLoop s c) = layer_counted (out-KStmt s.stmt) c
 frame_counted (OfCall s) = Unit {0}
 frame_counted (OfPar s front back) = each_counted front × each_counted back
 
