@@ -1,0 +1,4 @@
+pub mod Cuts
+pub mod Singles
+pub mod Pieces
+pub mod Codes
