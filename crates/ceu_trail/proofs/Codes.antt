@@ -16,8 +16,8 @@ use Rattle.ceu_tree.specs.declared.kernel.KBlock.{KBlock, KBlock', out-KBlock}
 use Rattle.ceu_tree.specs.declared.kernel.KStmt.{KStmt, out-KStmt, Nothing, Assign, Out, AwaitIn, AwaitTime, Forever, Do, Escape, Break, Continue, If', Loop, Par'}
 use Rattle.ceu_tree.specs.declared.kernel.KStmt.TheOpen.{KStmt-F}
 use Rattle.ceu_tree.specs.Residual.{Act}
-use Rattle.ceu_tree.specs.Focus.{Focus, Here, In}
-use Rattle.ceu_legal.specs.Shape.{Part, around_statement, around_end, around_instance, around_part, around_turn, around_call, around_branch, Around, nothing_around, one_around, program_part}
+use Rattle.ceu_tree.specs.Focus.{Frame, Focus, Here, In}
+use Rattle.ceu_legal.specs.Shape.{Part, FrameFits, around_statement, around_end, around_instance, around_part, around_turn, around_call, around_branch, Around, nothing_around, one_around, program_part}
 use Rattle.ceu_shape.specs.Plans.{Plan, own_label, end_label}
 use Rattle.ceu_shape.specs.Pieces.{Draft}
 use Rattle.ceu_shape.specs.Words.{mark}
@@ -110,15 +110,25 @@ module _ (image : Image) (P : Plan) (K : Kernel) where
       found_block b x.fresh (placed_cut image (at_label image P K) (at_label image P K (own_label s.node)) ((node_whole image P K s built.fresh).lines (number image P K))
       ((block_draft P K b x.fresh).lines (number image P K) ++ behind P K false b) [] (x.inside.lines (number image P K)) built.lines)
 
-loop_single : (s : KStmt) (k : KLoop) (b : KBlock) → out-KStmt s ≡ KStmt-F.Loop k b → stmt_single s ≡ true → block_single b ≡ true
+pub loop_single : (s : KStmt) (k : KLoop) (b : KBlock) → out-KStmt s ≡ KStmt-F.Loop k b → stmt_single s ≡ true → block_single b ≡ true
 unfolding stmt_single out-KStmt Carrier.out
 loop_single (Loop j c) k b e h = subst (λ y. block_single y ≡ true) (ap (λ l. elim l as (λ _. KBlock) [ KStmt-F.Loop i d ↦ d | _ ↦ c ]) e) h
 loop_single s k b e h = absurd (cc)
 
-no_par : {A : Type 0} (s : KStmt) (k : _) (slot : _) (bs : _) → out-KStmt s ≡ KStmt-F.Par k slot bs → stmt_single s ≡ true → A
+pub no_par : {A : Type 0} (s : KStmt) (k : _) (slot : _) (bs : _) → out-KStmt s ≡ KStmt-F.Par k slot bs → stmt_single s ≡ true → A
 unfolding stmt_single out-KStmt Carrier.out
 no_par (Par' k slot x bs) j i cs e h = absurd (false≢true h)
 no_par s k slot bs e h = absurd (cc)
+
+-- what is inside a part of a program of one trail is of such a program
+pub frame_single : (K : Kernel) (top : ℕ) (fr : Frame) (d e : Part) → Single K → FrameFits K top fr d e → PartSingle d → PartSingle e
+frame_single K top fr d e single (around_statement {b = b} {rest = rest} {s = s} done is fin all) h = among_single done s rest (subst AllSingle is (list_single b h))
+frame_single K top fr d e single (around_end fin all) h = tt
+frame_single K top fr d e single (around_instance {seat = seat} done k is fin fit before after trail code) h = no_code_at K seat.code k single code
+frame_single K top fr d e single (around_part {s = s} b o) h = part_single s.stmt b h o
+frame_single K top fr d e single (around_turn {s = s} k b is counts) h = loop_single s.stmt k b is h
+frame_single K top fr d e single (around_call c es f t k is code) h = no_code_at K c k single code
+frame_single K top fr d e single (around_branch {s = s} k slot bs b cs is before after) h = no_par s.stmt k slot (bs ++ b ∷ cs) is h
 
 pub frames_are_built : FramesAreBuilt
 frames_are_built image P K top whole fr d e single (around_statement {b = b} {rest = rest} {s = s} done is fin all) h built = statement_found image P K whole b done s rest h is built

@@ -2,3 +2,5 @@ pub mod Cuts
 pub mod Singles
 pub mod Pieces
 pub mod Codes
+pub mod Gates
+pub mod Planned

@@ -77,7 +77,7 @@ part_single s b h e = absurd e
 
 -- ---- neither finalizers nor pools
 
-stmt_plain : (s : KStmt) → stmt_single s ≡ true → finalizers s ≡ 0
+pub stmt_plain : (s : KStmt) → stmt_single s ≡ true → finalizers s ≡ 0
 unfolding stmt_single
 stmt_plain (Finalize b) h = absurd (false≢true h)
 stmt_plain s h = refl

@@ -2,7 +2,7 @@
 #![tactic(auto)]
 
 ghost use Rattle.ceu_trail.specs.Laws.{PartsAreBuilt};
-ghost use Rattle.ceu_trail.specs.PartLaws.{ProgramIsBuilt, FramesAreBuilt, BlocksOpen, ListsBegin};
+ghost use Rattle.ceu_trail.specs.PartLaws.{ProgramIsBuilt, FramesAreBuilt, BlocksOpen, ListsBegin, GatesAreFirst, GatesNest};
 
 /// Each part of a program at which a turn may be has its code, which stands at the part's own label.
 pub fn parts_are_built()
@@ -27,4 +27,14 @@ pub fn blocks_open()
 /// Statements of a block begin at the own label of the first one.
 pub fn lists_begin()
     ensures { ListsBegin }
+{}
+
+/// Each part of a program has gates from the first one on, and the image has them all.
+pub fn gates_are_first()
+    ensures { GatesAreFirst }
+{}
+
+/// A part has no more gates than the part around it.
+pub fn gates_nest()
+    ensures { GatesNest }
 {}
