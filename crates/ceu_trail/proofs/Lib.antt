@@ -6,3 +6,4 @@ pub mod Gates
 pub mod Planned
 pub mod Rising
 pub mod Stops
+pub mod Plain
