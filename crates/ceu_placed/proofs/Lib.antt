@@ -1,0 +1,9 @@
+pub mod Below
+pub mod Adding
+pub mod MarkedExpressions
+pub mod MarkedStatements
+pub mod MarkedParts
+pub mod Named
+pub mod Grounds
+pub mod NamedParts
+pub mod Whole
