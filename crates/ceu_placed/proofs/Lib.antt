@@ -7,3 +7,9 @@ pub mod Named
 pub mod Grounds
 pub mod NamedParts
 pub mod Whole
+pub mod Light
+pub mod LightStatements
+pub mod LightParts
+pub mod Counted
+pub mod Listed
+pub mod Few

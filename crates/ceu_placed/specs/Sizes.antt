@@ -1,0 +1,36 @@
+-- How much the code of a kernel takes at most, by the weight of the kernel.
+use Rattle.std.specs.Prelude.{◌≡◌, ℕ, ◌+◌, ◌*◌, ◌<◌, ◌≤◌, max, List, ◌++◌, length, Some, slice_get}
+use Rattle.std.specs.List.{AllByRecursion}
+use Rattle.ceu_base.specs.declared.kinds.Pos.{Pos}
+use Rattle.ceu_tree.specs.declared.kernel.Kernel.{Kernel}
+use Rattle.ceu_tree.specs.Numbering.{block_nodes, codes_nodes}
+use Rattle.ceu_tree.specs.Weight.{weight}
+use Rattle.ceu_tree.specs.Proper.{Proper}
+use Rattle.ceu_asm.specs.Lines.{code_size, IsWhole}
+use Rattle.ceu_shape.specs.Plans.{Plan}
+use Rattle.ceu_shape.specs.Pieces.{numbered}
+use Rattle.ceu_shape.specs.Shape.{kernel_piece, shape_positions, shape_lines}
+
+-- the bytes of the code are at most the weight, and 12 at least are allowed
+abbrev pub CodeIsShort : Type 0
+CodeIsShort = (P : Plan) (K : Kernel) → code_size (shape_lines P K) ≤ max (weight K) 12
+
+-- so the lines of a proper kernel of at most this weight become bytes
+abbrev pub CodeIsWhole : Type 0
+CodeIsWhole = (P : Plan) (K : Kernel) → Proper K → weight K ≤ 65535 → IsWhole (shape_lines P K)
+
+-- the positions that it names are no more than the weight
+abbrev pub PositionsAreFew : Type 0
+PositionsAreFew = (P : Plan) (K : Kernel) → length (shape_positions P K) ≤ weight K
+
+-- a kernel of a weight has few nodes: one for each 24, and one
+abbrev pub NodesAreFew : Type 0
+NodesAreFew = (K : Kernel) → 24 * length (block_nodes K.body ++ codes_nodes K.codes) ≤ weight K + 24
+
+-- the labels that it takes are below twice the weight and 3
+abbrev pub LabelsAreFew : Type 0
+LabelsAreFew = (P : Plan) (K : Kernel) → (kernel_piece P K).next ≤ 2 * weight K + 2
+
+-- each position that the lines name stands in the list at its number
+abbrev pub PositionsAreListed : Type 0
+PositionsAreListed = (P : Plan) (K : Kernel) → AllByRecursion (λ (p : Pos). slice_get (shape_positions P K) (numbered (shape_positions P K) p) ≡ Some p) (kernel_piece P K).noted
