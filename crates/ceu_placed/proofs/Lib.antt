@@ -13,3 +13,14 @@ pub mod LightParts
 pub mod Counted
 pub mod Listed
 pub mod Few
+pub mod Ranged
+pub mod RangedParts
+pub mod Typed
+pub mod Scopes
+pub mod Slots
+pub mod GateTables
+pub mod Declared
+pub mod Searched
+pub mod ThereParts
+pub mod AllThere
+pub mod Operands

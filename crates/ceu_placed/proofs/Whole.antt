@@ -55,7 +55,7 @@ mark_none_twice P K ok label = omega (arith, marks_of P K ok (numbered (shape_po
 
 -- ---- what lines go to
 
-body_proper : (K : Kernel) → Proper K → (block_ok K (outer_names_from [] K.codes) (body_scope K (outer_names_from [] K.codes) None K.body ty.S32) K.body ≡ true) × (codes_ok K (outer_names_from [] K.codes) 0 K.codes ≡ true)
+pub body_proper : (K : Kernel) → Proper K → (block_ok K (outer_names_from [] K.codes) (body_scope K (outer_names_from [] K.codes) None K.body ty.S32) K.body ≡ true) × (codes_ok K (outer_names_from [] K.codes) 0 K.codes ≡ true)
 unfolding is_proper
 body_proper K ok =
     let names = outer_names_from [] K.codes in

@@ -1,7 +1,8 @@
 //! Laws of the code of a kernel, `shape`, each the contract of a function with an empty body.
 #![tactic(auto)]
 
-ghost use Rattle.ceu_placed.specs.Laws.{MarkEachLabelOnce, MarkNoLabelTwice, MarkWhatIsNamed};
+ghost use Rattle.ceu_placed.specs.Laws.{MarkEachLabelOnce, MarkNoLabelTwice, MarkWhatIsNamed, NamesAreThere, OperandsAreInRange, ShapeIsPlaced};
+ghost use Rattle.ceu_placed.specs.Fits.{MadePlansFit};
 ghost use Rattle.ceu_placed.specs.Sizes.{CodeIsShort, CodeIsWhole, LabelsAreFew, NodesAreFew, PositionsAreFew, PositionsAreListed};
 
 /// In the lines of a proper kernel each label that was taken is marked by one line, and no other label by any; so each label that a line goes to is
@@ -25,4 +26,25 @@ pub fn positions_are_few()
     ensures nodes { NodesAreFew }
     ensures labels { LabelsAreFew }
     ensures listed { PositionsAreListed }
+{}
+
+/// The plans of slots and of gates that are made of a kernel fit it.
+pub fn plans_fit()
+    ensures { MadePlansFit }
+{}
+
+/// What the parts of a proper kernel name is there: slots, nodes, ports, events, codes, pools and exits by their numbers, with types and constants
+/// that are values of theirs.
+pub fn names_are_there()
+    ensures { NamesAreThere }
+{}
+
+/// The operands of the instructions of its code are in range.
+pub fn operands_are_in_range()
+    ensures { OperandsAreInRange }
+{}
+
+/// The lines of its code stand in its image: at each one's offset the machine fetches its instruction, with labels as offsets.
+pub fn shape_is_placed()
+    ensures { ShapeIsPlaced }
 {}
