@@ -1,10 +1,11 @@
 -- Marks of pieces that are put together.
-use Rattle.std.proofs.Common.{◌≡◌, refl, ℕ, ◌+◌, ◌≤◌, List, [], ◌∷◌, ◌++◌, arith}
+use Rattle.std.proofs.Common.{◌≡◌, ℕ, ◌+◌, ◌≤◌, List, ◌++◌, arith}
 use Rattle.ceu_base.specs.declared.kinds.Pos.{Pos}
 use Rattle.ceu_asm.specs.declared.line.Line.{Line}
 use Rattle.ceu_asm.specs.Lines.{marks}
-use Rattle.ceu_shape.specs.Pieces.{Piece, Draft, Stop, both, nothing, text, stopping, placed, placed_stopping}
-use Rattle.ceu_placed.proofs.Below.{below, marks_append}
+use Rattle.ceu_shape.specs.Pieces.{Draft, Stop, both, nothing, text, stopping, placed, placed_stopping}
+use Rattle.ceu_asm.proofs.Following.{marks-append}
+use Rattle.ceu_placed.proofs.Below.{below}
 
 module _ (label : ℕ) (number : Pos → ℕ) where
   -- From a first label on a draft marks each label that it takes once, and besides as much of this one as the two numbers are apart.
@@ -33,7 +34,7 @@ module _ (label : ℕ) (number : Pos → ℕ) where
       go : marks label ((a fresh).lines number) + below label fresh + p ≡ below label (a fresh).next + q →
           marks label ((b (a fresh).next).lines number) + below label (a fresh).next + r ≡ below label (b (a fresh).next).next + s →
           marks label ((a fresh).lines number ++ (b (a fresh).next).lines number) + below label fresh + (p + r) ≡ below label (b (a fresh).next).next + (q + s)
-      go x y = omega (arith, x, y, marks_append label ((a fresh).lines number) ((b (a fresh).next).lines number))
+      go x y = omega (arith, x, y, marks-append label ((a fresh).lines number) ((b (a fresh).next).lines number))
 
   pub adds_as : (d : Draft) (fresh p q r s : ℕ) → p + s ≡ q + r → Adds d fresh p q → Adds d fresh r s
   adds_as d fresh p q r s e f = record { is = omega (arith, f.is, e); grows = f.grows }

@@ -1,7 +1,6 @@
 -- What the parts of a proper kernel name is there: the whole.
-use Rattle.std.proofs.Common.{◌≡◌, refl, sym, ap, ◌∙◌, subst, ℕ, zero, suc, ◌+◌, ◌<◌, ◌≤◌, Bool, true, false, ◌&&◌, List, [], ◌∷◌, ◌++◌, length, Option, Some, None, arith}
-use Rattle.std.specs.Prelude.{nat_lt}
-use Rattle.std.specs.List.{AllByRecursion, list_all}
+use Rattle.std.proofs.Common.{◌≡◌, refl, subst, ℕ, zero, suc, ◌+◌, ◌<◌, ◌≤◌, true, ◌&&◌, List, [], ◌∷◌, ◌++◌, length, Option, Some, None, arith}
+use Rattle.std.specs.List.{list_all}
 use Rattle.std.proofs.lemmas.Bool.{and_parts, ltb-true}
 use Rattle.ceu_base.specs.declared.kinds.Ty.{Ty}
 use Rattle.ceu_base.specs.declared.kinds.Ty.TheVariants as ty
@@ -16,9 +15,9 @@ use Rattle.ceu_tree.specs.Proper.{Proper, Scope, is_above, decl_ok, is_parameter
 use Rattle.ceu_gates.specs.Ranges.{block_ranges, codes_ranges}
 use Rattle.ceu_slots.specs.Law.{FramesKept}
 use Rattle.ceu_shape.specs.Plans.{Plan}
-use Rattle.ceu_shape.specs.Searches.{node_of_block, body_node, escape_target, pool_size}
+use Rattle.ceu_shape.specs.Searches.{node_of_block, escape_target, pool_size}
 use Rattle.ceu_placed.specs.Fits.{PlanFits, slot_count, node_count}
-use Rattle.ceu_placed.specs.There.{SlotThere, TargetThere, BlockThere, CodesThere, KernelThere}
+use Rattle.ceu_placed.specs.There.{SlotThere, TargetThere, BlockThere, CodesThere}
 use Rattle.ceu_placed.specs.Laws.{NamesAreThere}
 use Rattle.ceu_placed.proofs.Slots.{all_split, counted_below, numbered_both, slots_small}
 use Rattle.ceu_placed.proofs.Scopes.{AllSeen, OuterFine, SlotsThere, declared_fine, parameters_fine}

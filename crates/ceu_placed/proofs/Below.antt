@@ -1,10 +1,8 @@
 -- How often a label is marked, as a sum over the labels that are.
-use Rattle.std.proofs.Common.{◌≡◌, refl, sym, ap, ◌∙◌, ℕ, zero, suc, ◌+◌, ◌*◌, ◌<◌, ◌≤◌, Bool, true, false, IsTrue, List, [], ◌∷◌, ◌++◌, length, ◌==◌, ◌&&◌, if◌then◌else◌, arith}
+use Rattle.std.proofs.Common.{◌≡◌, refl, sym, ap, ℕ, suc, ◌+◌, ◌*◌, IsTrue, List, [], ◌∷◌, ◌++◌, length, ◌==◌, if◌then◌else◌, arith}
 use Rattle.std.specs.Prelude.{nat_lt}
-use Rattle.std.proofs.lemmas.Bool.{eqb-true, eq-eqb, ltb-true, ltb-false, and_parts}
+use Rattle.std.proofs.lemmas.Bool.{eqb-true, and_parts}
 use Rattle.std.proofs.lemmas.Bool.Decides.{nat_tests}
-use Rattle.ceu_asm.specs.declared.line.Line.{Line}
-use Rattle.ceu_asm.specs.Lines.{is_mark, marks}
 use Rattle.ceu_shape.specs.Plans.{own_label, end_label}
 use Rattle.ceu_tree.specs.Numbering.{counts_from}
 
@@ -23,10 +21,6 @@ below_more label x y e = grind (arith, nat_tests)
 pub below_zero : (label : ℕ) → below label 0 ≡ 0
 unfolding below
 below_zero label = grind (arith, nat_tests)
-
-pub marks_append : (label : ℕ) (a b : List Line) → marks label (a ++ b) ≡ marks label a + marks label b
-marks_append label [] b = omega arith
-marks_append label (x ∷ a) b = omega (arith, marks_append label a b)
 
 -- ---- the labels of nodes
 

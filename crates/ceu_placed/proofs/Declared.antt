@@ -1,7 +1,7 @@
 -- Declarations in a proper kernel, in a plan that fits it: their slots are there, pools have few places, and the gates of a block have 16 bits.
-use Rattle.std.proofs.Common.{◌≡◌, refl, sym, ap, ◌∙◌, subst, ℕ, zero, suc, ◌+◌, ◌*◌, ◌<◌, ◌≤◌, ◌^◌, max, Bool, true, false, not, ◌&&◌, List, [], ◌∷◌, ◌++◌, length, Option, Some, None, arith}
+use Rattle.std.proofs.Common.{◌≡◌, refl, sym, ap, subst, ℕ, ◌+◌, ◌*◌, ◌<◌, ◌≤◌, ◌^◌, max, true, not, ◌&&◌, List, [], ◌∷◌, length, Option, Some, arith}
 use Rattle.std.specs.Prelude.{nat_lt, nat_le}
-use Rattle.std.specs.List.{AllByRecursion, list_all}
+use Rattle.std.specs.List.{list_all}
 use Rattle.std.proofs.Math.Nat.{mul-le-mul_left}
 use Rattle.std.proofs.lemmas.Bool.{and_parts, false≢true}
 use Rattle.ceu_base.specs.declared.kinds.Ty.TheVariants as ty
@@ -10,22 +10,22 @@ use Rattle.ceu_tree.specs.declared.kernel.KCode.{KCode}
 use Rattle.ceu_tree.specs.declared.kernel.KDecl.{KDecl}
 use Rattle.ceu_tree.specs.declared.kernel.KKind.{KKind}
 use Rattle.ceu_tree.specs.declared.kernel.KKind.TheVariants as kind
-use Rattle.ceu_tree.specs.declared.kernel.KBlock.{KBlock, KBlock', Row_of-KNode}
+use Rattle.ceu_tree.specs.declared.kernel.KBlock.{Row_of-KNode}
 use Rattle.ceu_tree.specs.Leaf.{code_at}
-use Rattle.ceu_tree.specs.Needs.{entry, nodes_finalizers, nodes_gates, block_gates, pool_gates, pools_gates}
+use Rattle.ceu_tree.specs.Needs.{entry, nodes_finalizers, nodes_gates, pool_gates, pools_gates}
 use Rattle.ceu_tree.specs.Numbering.{decl_slots}
 use Rattle.ceu_tree.specs.Proper.{Proper, Scope, Where, InTrail, InsideAsync, InFinalizer, is_trail, outside_finalizers, is_above, on_code, decl_ok}
 use Rattle.ceu_tree.specs.Typing.{same_ty}
-use Rattle.ceu_gates.specs.Ranges.{range, block_ranges}
+use Rattle.ceu_gates.specs.Ranges.{range}
 use Rattle.ceu_slots.specs.Law.{declared_size, DeclsSized}
 use Rattle.ceu_shape.specs.Plans.{Plan}
 use Rattle.ceu_shape.specs.Searches.{node_of_block, node_of_body, body_node}
 use Rattle.ceu_shape.specs.Shape as shape
-use Rattle.ceu_placed.specs.Fits.{PlanFits, slot_count, node_count}
-use Rattle.ceu_placed.specs.There.{SlotThere, PoolThere, DeclsThere, BlockOwn}
+use Rattle.ceu_placed.specs.Fits.{PlanFits, node_count}
+use Rattle.ceu_placed.specs.There.{SlotThere, PoolThere, DeclsThere}
 use Rattle.ceu_placed.proofs.Slots.{slots_small}
-use Rattle.ceu_placed.proofs.GateTables.{Kept, AllKept}
-use Rattle.ceu_placed.proofs.Scopes.{SlotsThere, CodeThere, code_there}
+use Rattle.ceu_placed.proofs.GateTables.{Kept}
+use Rattle.ceu_placed.proofs.Scopes.{SlotsThere, code_there}
 
 pub trail_outside : (w : Where) → is_trail w ≡ true → outside_finalizers w ≡ true
 trail_outside InTrail h = refl

@@ -1,14 +1,11 @@
 -- The code of a kernel is short, and its positions and labels are few.
-use Rattle.std.proofs.Common.{◌≡◌, refl, ap, ℕ, ◌+◌, ◌*◌, ◌≤◌, max, List, [], ◌∷◌, ◌++◌, length, arith}
+use Rattle.std.proofs.Common.{[], arith}
 use Rattle.ceu_base.specs.declared.kinds.Pos.{Pos}
-use Rattle.ceu_tree.specs.declared.kernel.Kernel.{Kernel}
-use Rattle.ceu_tree.specs.Weight.{weight}
-use Rattle.ceu_shape.specs.Plans.{Plan}
 use Rattle.ceu_shape.specs.Pieces.{numbered}
 use Rattle.ceu_shape.specs.Shape.{first_fresh, kernel_piece, shape_positions, shape_lines}
 use Rattle.ceu_shape.proofs.Adding.{placed_length}
-use Rattle.ceu_placed.specs.Sizes.{CodeIsShort, CodeIsWhole, PositionsAreFew, NodesAreFew, LabelsAreFew, PositionsAreListed}
-use Rattle.ceu_placed.proofs.Counted.{kernel_count}
+use Rattle.ceu_placed.specs.Sizes.{CodeIsShort, CodeIsWhole, PositionsAreFew, NodesAreFew, PoolsAreFew, LabelsAreFew, PositionsAreListed}
+use Rattle.ceu_placed.proofs.Counted.{kernel_count, kernel_counts}
 use Rattle.ceu_placed.proofs.Listed.{all_listed}
 use Rattle.ceu_placed.proofs.LightParts.{kernel_light}
 use Rattle.ceu_placed.proofs.Whole.{mark_named}
@@ -28,6 +25,9 @@ few_positions P K =
 
 pub few_nodes : NodesAreFew
 few_nodes K = kernel_count K
+
+pub few_pools : PoolsAreFew
+few_pools K = (kernel_counts K).pools
 
 pub few_labels : LabelsAreFew
 unfolding kernel_piece

@@ -1,19 +1,17 @@
 -- In a plan that fits a kernel the gates of each node are those of its range, and the tables of the codes' gates are right.
-use Rattle.std.proofs.Common.{◌≡◌, refl, sym, ap, ◌∙◌, subst, ℕ, zero, suc, ◌+◌, ◌*◌, ◌<◌, ◌≤◌, max, Bool, true, false, ◌&&◌, ◌==◌, List, [], ◌∷◌, ◌++◌, length, map, get_or, Option, Some, None, length-append, arith}
-use Rattle.std.specs.Prelude.{slice_index}
+use Rattle.std.proofs.Common.{◌≡◌, refl, sym, ap, ◌∙◌, subst, ℕ, zero, suc, ◌+◌, ◌<◌, ◌≤◌, Bool, true, false, ◌==◌, List, [], ◌∷◌, ◌++◌, length, map, get_or, Option, Some, length-append, arith}
 use Rattle.std.specs.List.{AllByRecursion}
 use Rattle.std.proofs.lemmas.Bool.{eqb-true, eqb-false, and_parts}
 use Rattle.std.proofs.lemmas.List.{map-append, length-map}
 use Rattle.ceu_tree.specs.declared.kernel.Kernel.{Kernel}
 use Rattle.ceu_tree.specs.declared.kernel.KCode.{KCode}
 use Rattle.ceu_tree.specs.declared.kernel.KBlock.{KBlock, KBlock'}
-use Rattle.ceu_tree.specs.Greatest.{greatest}
 use Rattle.ceu_tree.specs.Leaf.{code_at}
-use Rattle.ceu_tree.specs.Needs.{entry, nodes_finalizers, pools_gates, block_gates, gates_from, gates}
+use Rattle.ceu_tree.specs.Needs.{entry, block_gates, gates_from}
 use Rattle.ceu_tree.specs.Numbering.{block_nodes, codes_nodes, counts_from}
 use Rattle.ceu_tree.specs.Proper.{Proper}
 use Rattle.ceu_gates.specs.declared.ranges.GateRange.{GateRange}
-use Rattle.ceu_gates.specs.Ranges.{range, reach, block_ranges, nodes_ranges, codes_ranges, ranges, the_first, the_count, first_gate, gate_count, IsByNode}
+use Rattle.ceu_gates.specs.Ranges.{reach, block_ranges, codes_ranges, ranges, the_first, the_count, first_gate, gate_count}
 use Rattle.ceu_gates.proofs.Numbered.{block_numbers, firsts_listed, counts_listed}
 use Rattle.ceu_gates.proofs.Within.{ranges_within}
 use Rattle.ceu_shape.specs.Plans.{Plan}

@@ -1,9 +1,9 @@
 -- How many bytes, labels and positions pieces take that are put together.
-use Rattle.std.proofs.Common.{◌≡◌, refl, ℕ, ◌+◌, ◌≤◌, List, [], ◌∷◌, ◌++◌, length, arith, length-append}
+use Rattle.std.proofs.Common.{ℕ, ◌+◌, ◌≤◌, List, ◌++◌, length, arith, length-append}
 use Rattle.ceu_base.specs.declared.kinds.Pos.{Pos}
 use Rattle.ceu_asm.specs.declared.line.Line.{Line}
 use Rattle.ceu_asm.specs.Lines.{code_size}
-use Rattle.ceu_shape.specs.Pieces.{Piece, Draft, both, nothing, text}
+use Rattle.ceu_shape.specs.Pieces.{Draft, both, nothing, text}
 use Rattle.ceu_shape.proofs.Short.{size_append}
 
 module _ (number : Pos → ℕ) where

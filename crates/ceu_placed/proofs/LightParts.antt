@@ -1,5 +1,5 @@
 -- How many bytes, labels and positions the lines of a kernel take, by its weight.
-use Rattle.std.proofs.Common.{◌≡◌, refl, ap, sym, ℕ, zero, suc, ◌+◌, ◌*◌, ◌≤◌, max, List, [], ◌∷◌, ◌++◌, length, Option, Some, None, arith}
+use Rattle.std.proofs.Common.{◌≡◌, refl, ℕ, zero, suc, ◌+◌, ◌*◌, ◌≤◌, max, List, [], ◌∷◌, ◌++◌, length, Option, Some, None, arith}
 use Rattle.ceu_base.specs.declared.kinds.Pos.{Pos}
 use Rattle.ceu_base.specs.declared.kinds.Ty.{Ty}
 use Rattle.ceu_base.specs.declared.kinds.Ty.TheVariants as ty
@@ -13,7 +13,7 @@ use Rattle.ceu_tree.specs.declared.kernel.KLoop.{KLoop}
 use Rattle.ceu_tree.specs.declared.kernel.KLoop.TheVariants as turns
 use Rattle.ceu_tree.specs.declared.kernel.KBlock.{KBlock, KBlock', Row_of-KNode, end_of-KNode, more_of-KNode}
 use Rattle.ceu_tree.specs.declared.kernel.KArm.{KArm, KArm'}
-use Rattle.ceu_tree.specs.declared.kernel.KStmt.{KStmt, Row_of-KArm, end_of-KArm, more_of-KArm, Row_of-KBlock, end_of-KBlock, more_of-KBlock, Nothing, Assign, Out, Emit, AwaitIn, AwaitTime, AwaitEvent, Forever, AwaitCode, Spawn, Kill, Unset, Async, Finalize, Do, Escape, Break, Continue, If', Loop, Par'}
+use Rattle.ceu_tree.specs.declared.kernel.KStmt.{KStmt, Row_of-KArm, end_of-KArm, more_of-KArm, Row_of-KBlock, end_of-KBlock, more_of-KBlock, Assign, Out, Emit, AwaitTime, AwaitCode, Spawn, Async, Finalize, Do, Escape, If', Loop, Par'}
 use Rattle.ceu_tree.specs.Greatest.{total}
 use Rattle.ceu_tree.specs.Needs.{finalizers, nodes_finalizers}
 use Rattle.ceu_tree.specs.Weight.{exp_count, exp_weight, weight_if, loop_weight, stmt_weight, block_weight, arm_weight, nodes_weight, arms_weight, blocks_weight, code_weight, weight}
@@ -25,7 +25,7 @@ use Rattle.ceu_shape.specs.Pieces.{Draft, both, nothing, text}
 use Rattle.ceu_shape.specs.Words.{mark, goto, plain}
 use Rattle.ceu_shape.specs.Searches.{node_of_block}
 use Rattle.ceu_shape.specs.Expressions.{exp_draft}
-use Rattle.ceu_shape.specs.Shape.{count_if, arm_count, ends_count, expression_count, branch_nodes, labels_of, node_draft, exp_part, exp_part_if, exp_parts, turn_parts, pool_gates, pools_gates, pool_line, pool_lines, own_gates, move_lines, block_begin, abort_own, block_end, with_parts, to_end, parts_draft, block_draft, arm_parts, nodes_draft, arms_parts, blocks_parts, zero_given, body_draft, program_draft, code_draft, codes_draft, kernel_draft}
+use Rattle.ceu_shape.specs.Shape.{count_if, arm_count, ends_count, expression_count, branch_nodes, labels_of, node_draft, exp_part, exp_part_if, exp_parts, turn_parts, pool_gates, pool_line, pool_lines, own_gates, move_lines, block_begin, abort_own, block_end, with_parts, to_end, parts_draft, block_draft, arm_parts, nodes_draft, arms_parts, blocks_parts, zero_given, body_draft, program_draft, code_draft, codes_draft, kernel_draft}
 use Rattle.ceu_shape.proofs.Short.{size_append, exp_tight}
 use Rattle.ceu_shape.proofs.Expressed.{exp_small}
 use Rattle.ceu_placed.proofs.Light.{Light, light_text, light_nothing, light_both, light_as, light_to}

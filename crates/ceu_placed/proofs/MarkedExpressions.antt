@@ -1,5 +1,5 @@
 -- The lines of an expression mark each label that they take once, and no other.
-use Rattle.std.proofs.Common.{◌≡◌, refl, ℕ, ◌+◌, ◌≤◌, List, [], ◌∷◌, ◌++◌, arith}
+use Rattle.std.proofs.Common.{◌≡◌, refl, ℕ, ◌+◌, List, [], ◌∷◌, arith}
 use Rattle.std.specs.Prelude.{pos}
 use Rattle.ceu_base.specs.declared.kinds.Ty.{Ty}
 use Rattle.ceu_base.specs.declared.kinds.Ty.TheVariants as ty
@@ -12,10 +12,10 @@ use Rattle.ceu_tree.specs.Typing.{operand_ty}
 use Rattle.ceu_code.specs.declared.instr.Instr.TheVariants as instr
 use Rattle.ceu_asm.specs.declared.line.Line.{Line}
 use Rattle.ceu_asm.specs.Lines.{marks}
-use Rattle.ceu_shape.specs.Pieces.{Draft, both, nothing, text, placed, taking}
+use Rattle.ceu_shape.specs.Pieces.{Draft, both, text, placed, taking}
 use Rattle.ceu_shape.specs.Words.{mark, plain, goto, goto_if_false, load}
-use Rattle.ceu_shape.specs.Expressions.{and_draft, or_draft, binary_draft, two_draft, operator_ty, node_draft, operand_draft, exp_draft}
-use Rattle.ceu_placed.proofs.Below.{one, below, below_more}
+use Rattle.ceu_shape.specs.Expressions.{binary_draft, two_draft, operator_ty, node_draft, operand_draft, exp_draft}
+use Rattle.ceu_placed.proofs.Below.{one, below_more}
 use Rattle.ceu_placed.proofs.Adding.{Adds, adds_text, adds_placed, adds_nothing, adds_both, adds_as}
 
 module _ (label : ℕ) (number : Pos → ℕ) where

@@ -1,5 +1,5 @@
 -- The lines of a kernel mark each label of its nodes once, and each label that they take.
-use Rattle.std.proofs.Common.{◌≡◌, refl, sym, ap, ◌∙◌, ℕ, zero, suc, ◌+◌, ◌*◌, ◌≤◌, List, [], ◌∷◌, ◌++◌, length, Option, Some, None, arith}
+use Rattle.std.proofs.Common.{◌≡◌, refl, ap, ◌∙◌, ℕ, zero, suc, ◌+◌, ◌*◌, List, [], ◌∷◌, ◌++◌, length, Option, Some, None, arith}
 use Rattle.ceu_base.specs.declared.kinds.Pos.{Pos}
 use Rattle.ceu_base.specs.declared.kinds.Ty.{Ty}
 use Rattle.ceu_base.specs.declared.kinds.Ty.TheVariants as ty
@@ -13,19 +13,19 @@ use Rattle.ceu_tree.specs.declared.kernel.KLoop.{KLoop}
 use Rattle.ceu_tree.specs.declared.kernel.KLoop.TheVariants as turns
 use Rattle.ceu_tree.specs.declared.kernel.KBlock.{KBlock, KBlock', Row_of-KNode, end_of-KNode, more_of-KNode}
 use Rattle.ceu_tree.specs.declared.kernel.KArm.{KArm, KArm'}
-use Rattle.ceu_tree.specs.declared.kernel.KStmt.{KStmt, Row_of-KArm, end_of-KArm, more_of-KArm, Row_of-KBlock, end_of-KBlock, more_of-KBlock, Nothing, Assign, Out, Emit, AwaitIn, AwaitTime, AwaitEvent, Forever, AwaitCode, Spawn, Kill, Unset, Async, Finalize, Do, Escape, Break, Continue, If', Loop, Par'}
+use Rattle.ceu_tree.specs.declared.kernel.KStmt.{KStmt, Row_of-KArm, end_of-KArm, more_of-KArm, Row_of-KBlock, end_of-KBlock, more_of-KBlock, Assign, Out, Emit, AwaitTime, AwaitCode, Spawn, Async, Finalize, Do, Escape, If', Loop, Par'}
 use Rattle.ceu_tree.specs.Needs.{nodes_finalizers}
 use Rattle.ceu_tree.specs.Numbering.{stmt_nodes, block_nodes, arm_nodes, list_nodes, arms_nodes, blocks_nodes, codes_nodes}
 use Rattle.ceu_code.specs.declared.instr.Instr.TheVariants as instr
 use Rattle.ceu_asm.specs.declared.line.Line.{Line}
 use Rattle.ceu_asm.specs.Lines.{marks}
 use Rattle.ceu_shape.specs.Plans.{Plan, own_label, end_label}
-use Rattle.ceu_shape.specs.Pieces.{Draft, both, nothing, text, taking}
+use Rattle.ceu_shape.specs.Pieces.{Draft, both, nothing, text}
 use Rattle.ceu_shape.specs.Words.{mark, goto, plain}
 use Rattle.ceu_shape.specs.Searches.{node_of_block}
 use Rattle.ceu_shape.specs.Expressions.{exp_draft}
 use Rattle.ceu_shape.specs.Shape.{arm_block, arms_labels, branches_labels, block_labels, expression_labels, count_if, arm_count, expression_count, ends_count, part_labels, labels_of, node_draft, exp_part, exp_part_if, exp_parts, turn_parts, own_gates, pool_gates, pool_line, pool_lines, move_lines, block_begin, abort_own, block_end, with_parts, to_end, parts_draft, block_draft, arm_parts, nodes_draft, arms_parts, blocks_parts, zero_given, body_draft, program_draft, code_draft, codes_draft, kernel_draft}
-use Rattle.ceu_placed.proofs.Below.{one, below, below_more, marks_append, ends_of, both_of, both_append}
+use Rattle.ceu_placed.proofs.Below.{one, below, below_more, ends_of, both_of, both_append}
 use Rattle.ceu_placed.proofs.Adding.{Adds, adds_text, adds_nothing, adds_both, adds_as}
 use Rattle.ceu_placed.proofs.MarkedExpressions.{exp_even}
 use Rattle.ceu_placed.proofs.MarkedStatements.{node_adds}

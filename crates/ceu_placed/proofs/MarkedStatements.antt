@@ -1,11 +1,10 @@
 -- The lines of a statement without its parts mark its own label, the ends of its parts and the labels that they take, each once.
-use Rattle.std.proofs.Common.{◌≡◌, refl, sym, ap, ◌∙◌, ℕ, zero, suc, ◌+◌, ◌*◌, ◌≤◌, List, [], ◌∷◌, ◌++◌, length, Bool, true, false, Option, Some, None, arith}
+use Rattle.std.proofs.Common.{◌≡◌, refl, ap, ◌∙◌, ℕ, zero, suc, ◌+◌, ◌*◌, List, [], ◌∷◌, ◌++◌, length, Bool, true, false, Option, Some, None, arith}
 use Rattle.std.specs.Prelude.{slice_index}
 use Rattle.ceu_base.specs.declared.kinds.Ty.{Ty}
 use Rattle.ceu_base.specs.declared.kinds.Ty.TheVariants as ty
 use Rattle.ceu_base.specs.declared.kinds.Pos.{Pos}
 use Rattle.ceu_tree.specs.declared.kernel.Kernel.{Kernel}
-use Rattle.ceu_tree.specs.declared.kernel.KExp.{KExp}
 use Rattle.ceu_tree.specs.declared.kernel.KLoop.{KLoop}
 use Rattle.ceu_tree.specs.declared.kernel.KLoop.TheVariants as turns
 use Rattle.ceu_tree.specs.declared.kernel.Loc.{Loc}
@@ -18,15 +17,15 @@ use Rattle.ceu_asm.specs.declared.line.Line.{Line}
 use Rattle.ceu_asm.specs.declared.line.Labels.{Labels}
 use Rattle.ceu_asm.specs.Lines.{marks}
 use Rattle.ceu_shape.specs.Plans.{Plan, own_label, end_label}
-use Rattle.ceu_shape.specs.Pieces.{Draft, text, taking}
 use Rattle.ceu_shape.specs.Words.{mark, goto, plain, begin_of, end_of, abort}
-use Rattle.ceu_shape.specs.Searches.{node_of_block, input_ty, output_ty, event_ty, event_number, escape_target, stands_in_async, result_ty, pool_size}
-use Rattle.ceu_shape.specs.Flow.{keep, zero_kept, turn_end, turn_stops, arms_lines, arm_ends, if_lines, if_draft, escape_lines, escape_kept, free_lines, times_lines, range_lines, loop_of}
-use Rattle.ceu_shape.specs.Par.{forks, rest, move_to_first, forked, waiting_ends, waiting_stops, never_lines, ends, or_lines, cleared, set_ends, tests, and_lines, par_draft}
+use Rattle.ceu_shape.specs.Searches.{node_of_block, input_ty, event_ty, escape_target, stands_in_async, result_ty, pool_size}
+use Rattle.ceu_shape.specs.Flow.{keep, zero_kept, turn_end, arms_lines, arm_ends, if_lines, loop_of}
+use Rattle.ceu_shape.specs.Par.{forks, rest, move_to_first, forked, waiting_ends, never_lines, ends, or_lines, cleared, set_ends, tests, and_lines, par_draft}
 use Rattle.ceu_shape.specs.Pools.{argument_lines, stop_behind, alias_offset, spawn_lines}
 use Rattle.ceu_shape.specs.Async.{finalizer_lines}
 use Rattle.ceu_shape.specs.Shape.{arm_count, arm_block, branch_nodes, arms_labels, branches_labels, block_labels, expression_labels, part_labels, labels_of, node_draft}
-use Rattle.ceu_placed.proofs.Below.{one, below, below_more, marks_append, ends_of}
+use Rattle.ceu_asm.proofs.Following.{marks-append}
+use Rattle.ceu_placed.proofs.Below.{one, below, below_more, ends_of}
 use Rattle.ceu_placed.proofs.Adding.{Adds, adds_text, adds_stopping, adds_placed, adds_placed_stopping}
 
 -- the labels of parts from one on are those of a list
@@ -99,7 +98,7 @@ module _ (label : ℕ) where
         let y : List Line = goto (begin_of labels 0) ∷ [] in
         let none : marks label y ≡ 0 = omega arith in
         let front : marks label (x ++ y) ≡ marks label y = forks_none 1 (rest P labels bs) y in
-        omega (arith, marks_append label (x ++ y) ls, none, front)
+        omega (arith, marks-append label (x ++ y) ls, none, front)
 
     cleared_none : (slot : ℕ) (bs : List ℕ) (ls : List Line) → marks label (cleared P labels slot bs ++ ls) ≡ marks label ls
     cleared_none slot [] ls = refl
@@ -148,7 +147,7 @@ module _ (label : ℕ) where
         let e : List Line = ends P labels 0 bs in
         let t : List Line = abort P node ∷ goto labels.next ∷ [] in
         let none : marks label t ≡ 0 = omega arith in
-        omega (arith, move_none bs (forked P labels bs ++ (e ++ t)), forked_none bs (e ++ t), marks_append label e t, none, ends_marks rows 0 h)
+        omega (arith, move_none bs (forked P labels bs ++ (e ++ t)), forked_none bs (e ++ t), marks-append label e t, none, ends_marks rows 0 h)
 
     and_marks : {n : _} (rows : Row_of-KBlock n) (slot join : ℕ) → Reads labels.parts 0 (branches_labels rows) →
         marks label (and_lines P labels slot (branch_nodes rows) join) ≡ one label labels.own + (ends_of label (branches_labels rows) + (one label join + one label (join + 1)))
@@ -159,7 +158,7 @@ module _ (label : ℕ) where
         let t : List Line = (mark join ∷ tests P labels slot (join + 1) bs) ++ u in
         let last : marks label u ≡ one label (join + 1) = omega arith in
         let behind : marks label t ≡ one label join + one label (join + 1) = omega (arith, tests_none slot (join + 1) bs u, last) in
-        omega (arith, move_none bs (cleared P labels slot bs ++ (forked P labels bs ++ (s ++ t))), cleared_none slot bs (forked P labels bs ++ (s ++ t)), forked_none bs (s ++ t), marks_append label s t, behind, set_marks rows 0 slot join h)
+        omega (arith, move_none bs (cleared P labels slot bs ++ (forked P labels bs ++ (s ++ t))), cleared_none slot bs (forked P labels bs ++ (s ++ t)), forked_none bs (s ++ t), marks-append label s t, behind, set_marks rows 0 slot join h)
 
   if_marks : {n : _} (rows : Row_of-KArm n) (last : KBlock) (labels : Labels) (over begin : ℕ) → Reads labels.parts 0 (arms_labels begin rows ++ block_labels last) →
       marks label (if_lines (arm_count rows) labels over) + below label over ≡ one label labels.own + ends_of label (arms_labels begin rows ++ block_labels last) + below label (over + arm_count rows)
@@ -170,7 +169,7 @@ module _ (label : ℕ) where
       let t : List Line = mark (end_of labels (2 * n)) ∷ goto labels.next ∷ [] in
       let b : List Line = (goto (begin_of labels (2 * n)) ∷ e) ++ t in
       let tail : marks label t ≡ one label (end_of labels (2 * n)) = omega arith in
-      omega (arith, arms_marks rows last labels 0 over begin (2 * n) (omega arith) h, marks_append label a b, marks_append label e t, tail)
+      omega (arith, arms_marks rows last labels 0 over begin (2 * n) (omega arith) h, marks-append label a b, marks-append label e t, tail)
 
 module _ (P : Plan) (K : Kernel) (label : ℕ) (number : Pos → ℕ) where
   abbrev NodeAdds : (node : ℕ) → Pos → KStmt → (begin fresh : ℕ) → Type 0
@@ -218,12 +217,12 @@ module _ (P : Plan) (K : Kernel) (label : ℕ) (number : Pos → ℕ) where
       let a : List Line = argument_lines labels 0 (length es) in
       let g : List Line = goto (end_label n) ∷ [] in
       let k : List Line = (plain (instr.Call c (P.offset f) (P.first n)) ∷ keep P.offset (result_ty K c) t) ++ g in
-      adds_stopping label number _ _ fresh 0 _ (omega (arith, marks_append label a k, kept_none label P.offset (result_ty K c) t g, argument_marks label labels 0 (length es) begin (reads_all labels.parts)))
+      adds_stopping label number _ _ fresh 0 _ (omega (arith, marks-append label a k, kept_none label P.offset (result_ty K c) t g, argument_marks label labels 0 (length es) begin (reads_all labels.parts)))
   node_adds n p (Spawn c es q a) begin fresh =
       let labels = labels_of begin n (Spawn c es q a) in
       let x : List Line = argument_lines labels 0 (length es) in
       let g : List Line = plain (instr.Spawn c (P.offset q) (pool_size K q) (alias_offset P a) (number p)) ∷ goto (end_label n) ∷ [] in
-      adds_placed_stopping label number (stop_behind n (length es) labels 14 11 ∷ []) p (λ position. spawn_lines P n c (length es) q (pool_size K q) a position labels) fresh 0 _ (omega (arith, marks_append label x g, argument_marks label labels 0 (length es) begin (reads_all labels.parts)))
+      adds_placed_stopping label number (stop_behind n (length es) labels 14 11 ∷ []) p (λ position. spawn_lines P n c (length es) q (pool_size K q) a position labels) fresh 0 _ (omega (arith, marks-append label x g, argument_marks label labels 0 (length es) begin (reads_all labels.parts)))
   node_adds n p (Kill c) begin fresh = adds_text label number _ fresh 0 _ (omega arith)
   node_adds n p (Unset c) begin fresh = adds_text label number _ fresh 0 _ (omega arith)
   node_adds n p (Async b) begin fresh = adds_stopping label number _ _ fresh 0 _ (omega arith)

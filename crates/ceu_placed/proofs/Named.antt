@@ -1,12 +1,11 @@
 -- The labels that the lines of a statement without its parts go to: its next label, the begins of its parts and those that it takes.
-use Rattle.std.proofs.Common.{◌≡◌, refl, sym, ap, ◌∙◌, ℕ, zero, suc, ◌+◌, ◌*◌, ◌<◌, ◌≤◌, List, [], ◌∷◌, ◌++◌, length, Bool, true, false, Option, Some, None, arith}
+use Rattle.std.proofs.Common.{ℕ, zero, suc, ◌+◌, ◌*◌, ◌<◌, ◌≤◌, List, [], ◌∷◌, ◌++◌, length, Bool, true, false, Option, Some, None, arith}
 use Rattle.std.specs.Prelude.{slice_index}
 use Rattle.std.specs.List.{AllByRecursion}
 use Rattle.ceu_base.specs.declared.kinds.Ty.{Ty}
 use Rattle.ceu_base.specs.declared.kinds.Ty.TheVariants as ty
 use Rattle.ceu_base.specs.declared.kinds.Pos.{Pos}
 use Rattle.ceu_tree.specs.declared.kernel.Kernel.{Kernel}
-use Rattle.ceu_tree.specs.declared.kernel.KExp.{KExp}
 use Rattle.ceu_tree.specs.declared.kernel.KLoop.{KLoop}
 use Rattle.ceu_tree.specs.declared.kernel.KLoop.TheVariants as turns
 use Rattle.ceu_tree.specs.declared.kernel.Loc.{Loc}
@@ -18,11 +17,11 @@ use Rattle.ceu_asm.specs.declared.line.Line.{Line}
 use Rattle.ceu_asm.specs.declared.line.Labels.{Labels}
 use Rattle.ceu_asm.specs.Tables.{NamesWithin}
 use Rattle.ceu_shape.specs.Plans.{Plan}
-use Rattle.ceu_shape.specs.Words.{mark, goto, goto_if_false, plain, begin_of, end_of, part, abort}
-use Rattle.ceu_shape.specs.Searches.{input_ty, output_ty, event_ty, event_number, escape_target, stands_in_async, result_ty, pool_size, node_of_block}
-use Rattle.ceu_shape.specs.Flow.{part_if, keep, zero_kept, turn_end, turn_lines, arms_lines, arm_ends, if_lines, escape_value, escape_kept, loop_of}
+use Rattle.ceu_shape.specs.Words.{mark, goto, plain, begin_of, end_of, abort}
+use Rattle.ceu_shape.specs.Searches.{input_ty, event_ty, escape_target, stands_in_async, result_ty}
+use Rattle.ceu_shape.specs.Flow.{keep, zero_kept, turn_lines, arms_lines, arm_ends, if_lines, loop_of}
 use Rattle.ceu_shape.specs.Par.{forks, rest, move_to_first, forked, waiting_ends, ends, cleared, set_ends, tests, par_draft}
-use Rattle.ceu_shape.specs.Pools.{argument_lines, alias_offset}
+use Rattle.ceu_shape.specs.Pools.{argument_lines}
 use Rattle.ceu_shape.specs.Shape.{arm_count, branch_nodes, node_draft}
 
 module _ (bound : ℕ) where

@@ -1,7 +1,6 @@
 -- In a proper kernel each label that a line goes to is below the first that isn't taken.
-use Rattle.std.proofs.Common.{◌≡◌, refl, sym, ap, ◌∙◌, subst, ℕ, zero, suc, ◌+◌, ◌*◌, ◌<◌, ◌≤◌, Bool, true, false, ◌&&◌, List, [], ◌∷◌, ◌++◌, length, Option, Some, None, arith}
-use Rattle.std.specs.Prelude.{slice_index, pos, nat_le}
-use Rattle.std.specs.List.{AllByRecursion, list_any, list_all}
+use Rattle.std.proofs.Common.{◌≡◌, refl, sym, subst, ℕ, zero, suc, ◌+◌, ◌*◌, ◌<◌, ◌≤◌, true, ◌&&◌, List, [], ◌∷◌, ◌++◌, length, Option, Some, None, arith}
+use Rattle.std.specs.Prelude.{slice_index}
 use Rattle.std.proofs.lemmas.Bool.{and_parts}
 use Rattle.ceu_base.specs.declared.kinds.Pos.{Pos}
 use Rattle.ceu_base.specs.declared.kinds.Ty.{Ty}
@@ -17,28 +16,25 @@ use Rattle.ceu_tree.specs.declared.kernel.KExp.{KExp}
 use Rattle.ceu_tree.specs.declared.kernel.KExpNode.{KExpNode, Row_of-KExp, end_of-KExp, more_of-KExp, Const, Read, Alive, One', Two', As'}
 use Rattle.ceu_tree.specs.declared.kernel.KLoop.{KLoop}
 use Rattle.ceu_tree.specs.declared.kernel.KLoop.TheVariants as turns
-use Rattle.ceu_tree.specs.declared.kernel.KBlock.{KBlock, KBlock', out-KBlock, Row_of-KNode, end_of-KNode, more_of-KNode}
+use Rattle.ceu_tree.specs.declared.kernel.KBlock.{KBlock, KBlock', Row_of-KNode, end_of-KNode, more_of-KNode}
 use Rattle.ceu_tree.specs.declared.kernel.KArm.{KArm, KArm'}
-use Rattle.ceu_tree.specs.declared.kernel.KStmt.{KStmt, Row_of-KArm, end_of-KArm, more_of-KArm, Row_of-KBlock, end_of-KBlock, more_of-KBlock, Nothing, Assign, Out, Emit, AwaitIn, AwaitTime, AwaitEvent, Forever, AwaitCode, Spawn, Kill, Unset, Async, Finalize, Do, Escape, Break, Continue, If', Loop, Par'}
+use Rattle.ceu_tree.specs.declared.kernel.KStmt.{KStmt, Row_of-KArm, end_of-KArm, more_of-KArm, Row_of-KBlock, end_of-KBlock, more_of-KBlock, Assign, Out, Emit, AwaitTime, AwaitCode, Spawn, Async, Finalize, Do, Escape, Break, Continue, If', Loop, Par'}
 use Rattle.ceu_tree.specs.Typing.{operand_ty}
 use Rattle.ceu_tree.specs.Needs.{nodes_finalizers}
-use Rattle.ceu_tree.specs.Numbering.{stmt_nodes, block_nodes, arm_nodes, list_nodes, arms_nodes, blocks_nodes, codes_nodes, row_length}
-use Rattle.ceu_tree.specs.Proper.{Scope, Aim, DoAim, BodyAim, LoopAim, with_decls, with_aim, with_turns, do_aim, in_async, in_finalizer, decl_ok, takes, loop_ok, par_ok, is_trail, outside_finalizers, gives, is_parameter, escape_ok, is_loop_aim, stmt_ok, block_ok, arm_ok, nodes_ok, arms_ok, blocks_ok, body_scope, codes_ok}
-use Rattle.ceu_tree.specs.Mentions.{all_set}
+use Rattle.ceu_tree.specs.Numbering.{stmt_nodes, block_nodes, arm_nodes, list_nodes, arms_nodes, blocks_nodes, codes_nodes}
+use Rattle.ceu_tree.specs.Proper.{Scope, LoopAim, with_decls, with_aim, with_turns, do_aim, in_async, in_finalizer, is_trail, outside_finalizers, stmt_ok, block_ok, arm_ok, nodes_ok, arms_ok, blocks_ok, body_scope, codes_ok}
 use Rattle.ceu_code.specs.declared.instr.Instr.TheVariants as instr
 use Rattle.ceu_asm.specs.declared.line.Line.{Line}
-use Rattle.ceu_asm.specs.declared.line.Labels.{Labels}
 use Rattle.ceu_shape.specs.Plans.{Plan, own_label, end_label}
-use Rattle.ceu_shape.specs.Pieces.{Draft, both, nothing, text, placed, taking}
-use Rattle.ceu_shape.specs.Words.{mark, goto, goto_if_false, plain, load}
+use Rattle.ceu_shape.specs.Pieces.{Draft, both, nothing, text, placed}
+use Rattle.ceu_shape.specs.Words.{mark, goto, plain, load}
 use Rattle.ceu_shape.specs.Searches.{node_of_block}
 use Rattle.ceu_shape.specs.Expressions.{and_draft, or_draft, binary_draft, two_draft, operator_ty, exp_draft, operand_draft}
 use Rattle.ceu_shape.specs.Expressions as lines
 use Rattle.ceu_shape.specs.Shape.{count_if, arm_count, arm_block, arms_labels, branches_labels, block_labels, expression_labels, expression_count, ends_count, part_labels, next_label, labels_of, node_draft, exp_part, exp_part_if, exp_parts, turn_parts, own_gates, pool_gates, pool_line, pool_lines, move_lines, block_begin, abort_own, block_end, with_parts, to_end, parts_draft, block_draft, arm_parts, nodes_draft, arms_parts, blocks_parts, zero_given, body_draft, program_draft, code_draft, codes_draft, kernel_draft}
-use Rattle.ceu_placed.proofs.Adding.{Adds}
 use Rattle.ceu_placed.proofs.MarkedStatements.{node_adds}
 use Rattle.ceu_placed.proofs.Named.{Named, PartsWithin, named_append, node_named}
-use Rattle.ceu_placed.proofs.Grounds.{Ground, ground_head, ground_append, block_ground, AimsWithin, AimWithin, escape_within, loop_within, do_within, turns_within, out_node}
+use Rattle.ceu_placed.proofs.Grounds.{Ground, ground_head, ground_append, block_ground, AimsWithin, escape_within, loop_within, do_within, turns_within, out_node}
 
 module _ (bound : ℕ) (number : Pos → ℕ) where
   -- where all labels that a draft takes are below the bound, those that its lines go to are

@@ -1,22 +1,17 @@
 -- The operands of a kernel's code are in range, so its lines stand in its image.
-use Rattle.std.proofs.Common.{◌≡◌, refl, ℕ, zero, suc, ◌+◌, ◌*◌, ◌^◌, ◌<◌, ◌≤◌, Bool, true, false, if◌then◌else◌, List, [], ◌∷◌, length, arith}
+use Rattle.std.proofs.Common.{refl, ℕ, zero, suc, ◌+◌, ◌^◌, ◌<◌, ◌≤◌, Bool, true, false, if◌then◌else◌, List, [], ◌∷◌, length, arith}
 use Rattle.std.specs.List.{AllByRecursion}
 use Rattle.ceu_base.specs.declared.kinds.Pos.{Pos}
 use Rattle.ceu_tree.specs.declared.kernel.Kernel.{Kernel}
 use Rattle.ceu_tree.specs.Needs.{slots, entry, greatest_of, frames_from}
-use Rattle.ceu_tree.specs.Proper.{Proper}
-use Rattle.ceu_tree.specs.Weight.{weight}
-use Rattle.ceu_code.specs.declared.image.Image.{Image}
 use Rattle.ceu_asm.specs.declared.line.Line.{Line}
 use Rattle.ceu_asm.specs.declared.line.Line.TheVariants.{Mark, Plain, Jump}
-use Rattle.ceu_asm.specs.Lines.{is_mark, line_size, code_size, offset_of, resolved, instructions}
+use Rattle.ceu_asm.specs.Lines.{is_mark, line_size, code_size, offset_of, resolved}
 use Rattle.ceu_asm.specs.Places.{same_place, number_of}
 use Rattle.ceu_asm.specs.Whole.{IsInRange}
 use Rattle.ceu_fetch.proofs.Lines.{lines_are_placed}
-use Rattle.ceu_gates.specs.Ranges.{first_gate, gate_count, IsByNode}
 use Rattle.ceu_slots.specs.Layout.{frame_of_code}
-use Rattle.ceu_slots.specs.Plans.{Planned, Lawful, HasPlaces}
-use Rattle.ceu_shape.specs.Plans.{Plan, plan_of}
+use Rattle.ceu_shape.specs.Plans.{Plan}
 use Rattle.ceu_shape.specs.Pieces.{numbered}
 use Rattle.ceu_shape.specs.Shape.{first_fresh, kernel_piece, shape_positions, shape_lines, shape}
 use Rattle.ceu_placed.specs.Fits.{PlanFits, MadePlansFit}

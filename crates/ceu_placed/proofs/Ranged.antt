@@ -1,5 +1,5 @@
 -- The operands of the lines of a statement without its parts, and of an expression, are in range where what it names is there.
-use Rattle.std.proofs.Common.{◌≡◌, ◌≢◌, refl, sym, ap, ◌∙◌, ℕ, zero, suc, ◌+◌, ◌-◌, ◌*◌, ◌^◌, ◌<◌, ◌≤◌, List, [], ◌∷◌, ◌++◌, length, Bool, true, false, if◌then◌else◌, Option, Some, None, arith}
+use Rattle.std.proofs.Common.{◌≡◌, refl, ap, ℕ, zero, suc, ◌+◌, ◌-◌, ◌*◌, ◌^◌, ◌<◌, ◌≤◌, List, [], ◌∷◌, ◌++◌, length, Bool, true, false, if◌then◌else◌, Option, Some, None, arith}
 use Rattle.std.specs.Prelude.{pos}
 use Rattle.std.specs.List.{AllByRecursion}
 use Rattle.ceu_base.specs.Values.{IsValue}
@@ -20,7 +20,6 @@ use Rattle.ceu_tree.specs.declared.kernel.KBlock.{KBlock, KBlock'}
 use Rattle.ceu_tree.specs.declared.kernel.KStmt.{KStmt, Row_of-KBlock, end_of-KBlock, more_of-KBlock, Nothing, Assign, Out, Emit, AwaitIn, AwaitTime, AwaitEvent, Forever, AwaitCode, Spawn, Kill, Unset, Async, Finalize, Do, Escape, Break, Continue, If', Loop, Par'}
 use Rattle.ceu_tree.specs.Numbering.{row_length}
 use Rattle.ceu_tree.specs.Typing.{operand_ty}
-use Rattle.ceu_code.specs.declared.instr.Instr.{Instr}
 use Rattle.ceu_code.specs.declared.instr.Instr.TheVariants as instr
 use Rattle.ceu_code.specs.Instructions.{with_target, binary_byte}
 use Rattle.ceu_asm.specs.declared.line.Line.{Line}
@@ -32,14 +31,14 @@ use Rattle.ceu_shape.specs.Pieces.{Draft, both, nothing, text, placed, taking}
 use Rattle.ceu_shape.specs.Words.{mark, goto, goto_if_false, plain, begin_of, end_of, load, store, abort}
 use Rattle.ceu_shape.specs.Expressions.{and_draft, or_draft, binary_draft, two_draft, operator_ty, exp_draft, operand_draft}
 use Rattle.ceu_shape.specs.Expressions as lines
-use Rattle.ceu_shape.specs.Searches.{node_of_block, input_ty, output_ty, event_ty, event_number, in_code, escape_target, stands_in_async, result_ty, pool_size, kernel_pools}
-use Rattle.ceu_shape.specs.Flow.{keep, zero_kept, turn_end, turn_lines, arms_lines, arm_ends, if_lines, time_unit, loop_of, one_if}
+use Rattle.ceu_shape.specs.Searches.{node_of_block, input_ty, event_ty, event_number, in_code, escape_target, stands_in_async, result_ty, pool_size, kernel_pools}
+use Rattle.ceu_shape.specs.Flow.{keep, zero_kept, turn_lines, arms_lines, arm_ends, loop_of, one_if}
 use Rattle.ceu_shape.specs.Par.{forks, rest, move_to_first, forked, waiting_ends, ends, cleared, set_ends, tests, par_draft}
 use Rattle.ceu_shape.specs.Pools.{argument_lines, alias_offset}
 use Rattle.ceu_shape.specs.Shape.{arm_count, branch_nodes, node_draft}
 use Rattle.ceu_tree.specs.Proper.{event_at}
 use Rattle.ceu_placed.specs.Fits.{slot_count, node_count}
-use Rattle.ceu_placed.specs.There.{IsSome, SlotThere, LocThere, TargetThere, KeptThere, AliasThere, NodeThere, OperandThere, ExpThere, EscapeThere, LoopThere, BranchesThere, OwnThere, PartsThere, BlockThere, BlocksThere}
+use Rattle.ceu_placed.specs.There.{IsSome, LocThere, TargetThere, KeptThere, AliasThere, NodeThere, OperandThere, ExpThere, LoopThere, BranchesThere, OwnThere, PartsThere, BlockThere, BlocksThere}
 
 -- the line's instruction is in range where labels stand at these offsets
 abbrev pub LineRanged : (ℕ → ℕ) → Line → Type 0
@@ -341,4 +340,4 @@ module _ (P : Plan) (K : Kernel) (at : ℕ → ℕ) (number : Pos → ℕ) (few 
       (tt, arms_ranged labels 0 fresh c _ (few.labels (begin_of labels (2 * c)), arm_ends_ranged labels 0 c _ tail))
   node_ranged n p (Loop kind b) labels fresh own h parts = loop_ranged (stands_in_async K n) n p kind labels fresh (fresh + 1) h
   node_ranged n p (Par' kind slot x bs) labels fresh own h parts =
-      par_ranged labels n kind slot (branch_nodes bs) fresh own (nodes_of_branches bs parts) (branches_there kind slot (length (branch_nodes bs)) (row_length bs) (branch_count bs) h)
+      par_ranged labels n kind slot (branch_nodes bs) fresh own (nodes_of_branches bs parts) (branches_there kind slot (length (branch_nodes bs)) (row_length bs) (branch_count bs) h.1)

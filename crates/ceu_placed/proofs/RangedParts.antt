@@ -1,5 +1,5 @@
 -- The operands of all lines of a kernel are in range where what it names is there.
-use Rattle.std.proofs.Common.{◌≡◌, refl, ap, ◌∙◌, ℕ, zero, suc, ◌+◌, ◌*◌, ◌^◌, ◌<◌, ◌≤◌, List, [], ◌∷◌, ◌++◌, length, Bool, true, false, if◌then◌else◌, ◌==◌, Option, Some, None, arith}
+use Rattle.std.proofs.Common.{ℕ, zero, suc, ◌+◌, ◌*◌, ◌^◌, ◌<◌, ◌≤◌, List, [], ◌∷◌, ◌++◌, length, Bool, true, false, if◌then◌else◌, ◌==◌, Option, Some, None, arith}
 use Rattle.std.specs.Prelude.{pos}
 use Rattle.ceu_base.specs.declared.kinds.Pos.{Pos}
 use Rattle.ceu_base.specs.declared.kinds.Ty.{Ty}
@@ -14,17 +14,17 @@ use Rattle.ceu_tree.specs.declared.kernel.KLoop.{KLoop}
 use Rattle.ceu_tree.specs.declared.kernel.KLoop.TheVariants as turns
 use Rattle.ceu_tree.specs.declared.kernel.KBlock.{KBlock, KBlock', Row_of-KNode, end_of-KNode, more_of-KNode}
 use Rattle.ceu_tree.specs.declared.kernel.KArm.{KArm, KArm'}
-use Rattle.ceu_tree.specs.declared.kernel.KStmt.{KStmt, Row_of-KArm, end_of-KArm, more_of-KArm, Row_of-KBlock, end_of-KBlock, more_of-KBlock, Nothing, Assign, Out, Emit, AwaitIn, AwaitTime, AwaitEvent, Forever, AwaitCode, Spawn, Kill, Unset, Async, Finalize, Do, Escape, Break, Continue, If', Loop, Par'}
+use Rattle.ceu_tree.specs.declared.kernel.KStmt.{KStmt, Row_of-KArm, end_of-KArm, more_of-KArm, Row_of-KBlock, end_of-KBlock, more_of-KBlock, Assign, Out, Emit, AwaitTime, AwaitCode, Spawn, Async, Finalize, Do, Escape, If', Loop, Par'}
 use Rattle.ceu_tree.specs.Needs.{nodes_finalizers}
 use Rattle.ceu_code.specs.declared.instr.Instr.TheVariants as instr
 use Rattle.ceu_asm.specs.declared.line.Line.{Line}
 use Rattle.ceu_shape.specs.Plans.{Plan, own_label, end_label}
-use Rattle.ceu_shape.specs.Pieces.{Draft, both, nothing, text}
+use Rattle.ceu_shape.specs.Pieces.{Draft, both, text}
 use Rattle.ceu_shape.specs.Words.{mark, goto, plain}
 use Rattle.ceu_shape.specs.Expressions.{exp_draft}
-use Rattle.ceu_shape.specs.Searches.{node_of_block, body_node, kernel_pools, PoolRow, row_in, pool_row}
+use Rattle.ceu_shape.specs.Searches.{node_of_block, kernel_pools, PoolRow, row_in, pool_row}
 use Rattle.ceu_shape.specs.Shape.{expression_count, labels_of, node_draft, exp_part, exp_part_if, exp_parts, turn_parts, pool_gates, pools_gates, own_gates, pool_line, pool_lines, move_lines, block_begin, abort_own, block_end, with_parts, to_end, parts_draft, block_draft, arm_parts, nodes_draft, arms_parts, blocks_parts, zero_given, body_draft, program_draft, code_draft, codes_draft, kernel_draft}
-use Rattle.ceu_placed.specs.Fits.{slot_count, node_count}
+use Rattle.ceu_placed.specs.Fits.{node_count}
 use Rattle.ceu_placed.specs.There.{IsSome, ExpThere, ExpIfThere, ExpsThere, TurnsThere, OwnThere, SlotThere, PoolThere, DeclsThere, BlockOwn, PartsThere, BlockThere, ArmThere, NodesThere, ArmsThere, BlocksThere, CodesThere, KernelThere}
 use Rattle.ceu_placed.proofs.Ranged.{Ranged, ranged_append, Numbers, zero_value, Fine, fine_text, fine_nothing, fine_both, exp_fine, node_ranged}
 

@@ -1,5 +1,5 @@
 -- What is found from a place in a proper kernel is there: variables, aliases and pools that are seen, ports, events and codes.
-use Rattle.std.proofs.Common.{◌≡◌, ◌≢◌, refl, sym, ap, ◌∙◌, subst, ℕ, zero, suc, ◌+◌, ◌<◌, ◌≤◌, ◌^◌, Bool, true, false, not, ◌&&◌, ◌||◌, if◌then◌else◌, ◌==◌, List, [], ◌∷◌, ◌++◌, length, Option, Some, None, arith}
+use Rattle.std.proofs.Common.{◌≡◌, refl, subst, ℕ, zero, suc, ◌<◌, ◌^◌, Bool, true, false, not, ◌&&◌, if◌then◌else◌, ◌==◌, List, [], ◌∷◌, length, Option, Some, None, arith}
 use Rattle.std.specs.Prelude.{nat_lt, nat_le}
 use Rattle.std.specs.List.{AllByRecursion, list_all}
 use Rattle.std.proofs.lemmas.Bool.{eqb-true, and_parts, false≢true}
@@ -12,19 +12,17 @@ use Rattle.ceu_tree.specs.declared.kernel.KEvent.{KEvent}
 use Rattle.ceu_tree.specs.declared.kernel.KDecl.{KDecl}
 use Rattle.ceu_tree.specs.declared.kernel.KKind.{KKind}
 use Rattle.ceu_tree.specs.declared.kernel.KKind.TheVariants as kind
-use Rattle.ceu_tree.specs.declared.kernel.KLoop.{KLoop}
-use Rattle.ceu_tree.specs.declared.kernel.KLoop.TheVariants as turns
 use Rattle.ceu_tree.specs.declared.kernel.KExp.{KExp}
 use Rattle.ceu_tree.specs.declared.kernel.Loc.{Loc}
-use Rattle.ceu_tree.specs.declared.kernel.KBlock.{KBlock, out-KBlock}
-use Rattle.ceu_tree.specs.Typing.{same_ty, holds_all, given, given_if}
+use Rattle.ceu_tree.specs.declared.kernel.KBlock.{out-KBlock}
+use Rattle.ceu_tree.specs.Typing.{same_ty, holds_all}
 use Rattle.ceu_tree.specs.Numbering.{decl_slots}
 use Rattle.ceu_tree.specs.Leaf.{code_at}
-use Rattle.ceu_tree.specs.Proper.{SlotKind, IsVariable, IsLoopVariable, IsPool, IsAlias, Seen, Scope, find, pools_seen, pool_slots, slot_kind, declared_seen, with_decls, with_loop_variable, with_turns, is_in_code, is_trail, outside_asyncs, outside_finalizers, variable_ty, has_ty, is_loop_variable, alias_code, is_alias, is_pool_of, alias_takes, is_member, is_code, looked_up, reads, asks, takes, takes_if, gives, gives_if, gives_all, port_ty, event_at, event_seen, on_ty, is_above, on_code, decl_ok, is_parameter}
+use Rattle.ceu_tree.specs.Proper.{SlotKind, IsVariable, IsLoopVariable, IsPool, IsAlias, Seen, Scope, find, slot_kind, declared_seen, is_in_code, is_trail, outside_asyncs, outside_finalizers, variable_ty, has_ty, is_loop_variable, is_alias, is_pool_of, alias_takes, is_code, looked_up, reads, asks, takes, takes_if, gives, gives_if, gives_all, port_ty, event_at, event_seen, on_ty, is_above, on_code, decl_ok, is_parameter}
 use Rattle.ceu_shape.specs.Plans.{Plan}
-use Rattle.ceu_shape.specs.Searches.{ty_or_none, ty_of_event, ty_of_result}
-use Rattle.ceu_placed.specs.There.{IsSome, SlotThere, LocThere, TargetThere, KeptThere, AliasThere, ExpThere, ExpIfThere, ExpsThere}
-use Rattle.ceu_placed.proofs.Typed.{not_none, same_some, same_other, given_there, given_if_there, exp_there}
+use Rattle.ceu_shape.specs.Searches.{ty_or_none, ty_of_event}
+use Rattle.ceu_placed.specs.There.{IsSome, SlotThere, LocThere, KeptThere, AliasThere, ExpThere, ExpIfThere, ExpsThere}
+use Rattle.ceu_placed.proofs.Typed.{not_none, same_some, given_there, given_if_there}
 
 pub code_within : (c : ℕ) (cs : List KCode) (k : KCode) → code_at c cs ≡ Some k → c < length cs
 code_within c [] k e = absurd (cc)

@@ -1,5 +1,5 @@
 -- What a search of a proper kernel finds is there: the target of what an escape leaves, and the places of a pool.
-use Rattle.std.proofs.Common.{◌≡◌, refl, sym, ap, ◌∙◌, subst, ℕ, zero, suc, ◌+◌, ◌<◌, ◌≤◌, ◌^◌, Bool, true, false, ◌&&◌, if◌then◌else◌, ◌==◌, List, [], ◌∷◌, ◌++◌, length, Option, Some, None, arith}
+use Rattle.std.proofs.Common.{◌≡◌, refl, sym, ap, ◌∙◌, ℕ, ◌+◌, ◌≤◌, Bool, true, false, ◌&&◌, if◌then◌else◌, ◌==◌, List, [], ◌∷◌, ◌++◌, Option, Some, None, arith}
 use Rattle.std.specs.List.{AllByRecursion, list_all}
 use Rattle.std.proofs.lemmas.Bool.{and_parts, false≢true}
 use Rattle.ceu_base.specs.declared.kinds.Ty.TheVariants as ty
@@ -13,11 +13,11 @@ use Rattle.ceu_tree.specs.declared.kernel.KLoop.TheVariants as turns
 use Rattle.ceu_tree.specs.declared.kernel.Loc.{Loc}
 use Rattle.ceu_tree.specs.declared.kernel.KBlock.{KBlock, KBlock', Row_of-KNode, end_of-KNode, more_of-KNode}
 use Rattle.ceu_tree.specs.declared.kernel.KArm.{KArm, KArm'}
-use Rattle.ceu_tree.specs.declared.kernel.KStmt.{KStmt, Row_of-KArm, end_of-KArm, more_of-KArm, Row_of-KBlock, end_of-KBlock, more_of-KBlock, Nothing, Assign, Out, Emit, AwaitIn, AwaitTime, AwaitEvent, Forever, AwaitCode, Spawn, Kill, Unset, Async, Finalize, Do, Escape, Break, Continue, If', Loop, Par'}
+use Rattle.ceu_tree.specs.declared.kernel.KStmt.{KStmt, Row_of-KArm, end_of-KArm, more_of-KArm, Row_of-KBlock, end_of-KBlock, more_of-KBlock, Async, Finalize, Do, If', Loop, Par'}
 use Rattle.ceu_tree.specs.Mentions.{all_set}
 use Rattle.ceu_tree.specs.Numbering.{decl_slots, loop_slots, par_slots, row_length, stmt_slots, block_slots, arm_slots, list_slots, arms_slots, blocks_slots, codes_slots}
-use Rattle.ceu_tree.specs.Proper.{Proper, Scope, Seen, LoopAim, with_decls, with_aim, with_turns, do_aim, in_async, in_finalizer, pools_seen, pool_slots, decl_ok, takes, loop_ok, par_ok, is_trail, outside_finalizers, gives, is_parameter, stmt_ok, block_ok, arm_ok, nodes_ok, arms_ok, blocks_ok, body_scope, codes_ok}
-use Rattle.ceu_slots.specs.Law.{DeclsSized, TurnsSized, BytesSized, StmtSized, BlockSized, ArmSized, NodesSized, ArmsSized, BlocksSized, FramesKept}
+use Rattle.ceu_tree.specs.Proper.{Proper, Scope, LoopAim, with_decls, with_aim, with_turns, do_aim, in_async, in_finalizer, pools_seen, pool_slots, decl_ok, takes, loop_ok, is_trail, outside_finalizers, gives, is_parameter, stmt_ok, block_ok, arm_ok, nodes_ok, arms_ok, blocks_ok, body_scope, codes_ok}
+use Rattle.ceu_slots.specs.Law.{StmtSized, BlockSized, ArmSized, NodesSized, ArmsSized, BlocksSized, FramesKept}
 use Rattle.ceu_shape.specs.Plans.{Plan}
 use Rattle.ceu_shape.specs.Searches.{or_else, target_if, stmt_target, block_target, arm_target, nodes_target, arms_target, blocks_target, codes_target, escape_target, PoolRow, pool_of, decls_pools, stmt_pools, block_pools, arm_pools, nodes_pools, arms_pools, blocks_pools, codes_pools, kernel_pools, size_in, pool_size}
 use Rattle.ceu_placed.specs.Fits.{PlanFits}

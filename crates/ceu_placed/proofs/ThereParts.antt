@@ -1,13 +1,12 @@
 -- What the statements of a proper kernel name is there, in a plan that fits it.
-use Rattle.std.proofs.Common.{◌≡◌, refl, sym, ap, ◌∙◌, subst, ℕ, zero, suc, ◌+◌, ◌*◌, ◌<◌, ◌≤◌, ◌^◌, max, Bool, true, false, not, ◌&&◌, ◌||◌, ◌==◌, if◌then◌else◌, List, [], ◌∷◌, ◌++◌, length, Option, Some, None, arith}
-use Rattle.std.specs.Prelude.{nat_lt, nat_le}
-use Rattle.std.specs.List.{AllByRecursion, list_all, list_any}
-use Rattle.std.proofs.lemmas.Bool.{and_parts, false≢true, ltb-true}
+use Rattle.std.proofs.Common.{◌≡◌, refl, sym, ap, ◌∙◌, subst, ℕ, zero, suc, ◌+◌, ◌<◌, ◌≤◌, ◌^◌, Bool, true, false, not, ◌&&◌, ◌==◌, if◌then◌else◌, List, [], ◌∷◌, ◌++◌, length, Option, Some, None, arith}
+use Rattle.std.specs.Prelude.{nat_le}
+use Rattle.std.specs.List.{list_all, list_any}
+use Rattle.std.proofs.lemmas.Bool.{and_parts, false≢true, leb-true, ltb-true}
 use Rattle.ceu_base.specs.declared.kinds.Ty.{Ty}
 use Rattle.ceu_base.specs.declared.kinds.Ty.TheVariants as ty
 use Rattle.ceu_tree.specs.declared.kernel.Kernel.{Kernel}
 use Rattle.ceu_tree.specs.declared.kernel.KCode.{KCode}
-use Rattle.ceu_tree.specs.declared.kernel.KDecl.{KDecl}
 use Rattle.ceu_tree.specs.declared.kernel.KExp.{KExp}
 use Rattle.ceu_tree.specs.declared.kernel.KLoop.{KLoop}
 use Rattle.ceu_tree.specs.declared.kernel.KLoop.TheVariants as turns
@@ -17,24 +16,23 @@ use Rattle.ceu_tree.specs.declared.kernel.ParKind.TheVariants as par
 use Rattle.ceu_tree.specs.declared.kernel.KBlock.{KBlock, KBlock', Row_of-KNode, end_of-KNode, more_of-KNode}
 use Rattle.ceu_tree.specs.declared.kernel.KArm.{KArm, KArm'}
 use Rattle.ceu_tree.specs.declared.kernel.KStmt.{KStmt, Row_of-KArm, end_of-KArm, more_of-KArm, Row_of-KBlock, end_of-KBlock, more_of-KBlock, Nothing, Assign, Out, Emit, AwaitIn, AwaitTime, AwaitEvent, Forever, AwaitCode, Spawn, Kill, Unset, Async, Finalize, Do, Escape, Break, Continue, If', Loop, Par'}
-use Rattle.ceu_tree.specs.Leaf.{code_at}
 use Rattle.ceu_tree.specs.Mentions.{all_set}
-use Rattle.ceu_tree.specs.Needs.{finalizers, nodes_finalizers, nodes_gates, pools_gates, block_gates, stmt_gates}
-use Rattle.ceu_tree.specs.Numbering.{stmt_nodes, block_nodes, arm_nodes, list_nodes, arms_nodes, blocks_nodes, codes_nodes, decl_slots, loop_slots, par_slots, range_of, row_length, stmt_slots, block_slots, arm_slots, list_slots, arms_slots, blocks_slots, codes_slots}
-use Rattle.ceu_tree.specs.Proper.{Proper, Scope, Seen, Aim, DoAim, BodyAim, LoopAim, find, with_decls, with_aim, with_turns, do_aim, in_async, in_finalizer, pools_seen, pool_slots, decl_ok, takes, takes_if, gives, gives_if, gives_all, reads, asks, time_ok, loop_ok, par_ok, is_trail, outside_asyncs, outside_finalizers, is_alias, is_pool_of, alias_takes, escape_ok, is_loop_aim, on_ty, port_ty, event_at, event_seen, on_code, stmt_ok, block_ok, arm_ok, nodes_ok, arms_ok, blocks_ok}
+use Rattle.ceu_tree.specs.Needs.{finalizers, nodes_finalizers, pools_gates, block_gates}
+use Rattle.ceu_tree.specs.Numbering.{stmt_nodes, block_nodes, arm_nodes, list_nodes, arms_nodes, blocks_nodes, decl_slots, loop_slots, par_slots, range_of, row_length, stmt_slots, block_slots, arm_slots, list_slots, arms_slots, blocks_slots}
+use Rattle.ceu_tree.specs.Proper.{Proper, Scope, Aim, DoAim, BodyAim, LoopAim, find, with_decls, with_aim, with_turns, do_aim, in_async, in_finalizer, pools_seen, pool_slots, decl_ok, takes, takes_if, gives, gives_if, gives_all, reads, asks, time_ok, loop_ok, par_ok, is_trail, outside_asyncs, outside_finalizers, is_alias, is_pool_of, escape_ok, is_loop_aim, on_ty, port_ty, event_at, event_seen, on_code, stmt_ok, block_ok, arm_ok, nodes_ok, arms_ok, blocks_ok}
 use Rattle.ceu_tree.specs.Typing.{typed, same_ty, is_amount}
 use Rattle.ceu_gates.specs.declared.ranges.GateRange.{GateRange}
-use Rattle.ceu_gates.specs.Ranges.{range, starts, stmt_ranges, block_ranges, arm_ranges, nodes_ranges, arms_ranges, blocks_ranges}
+use Rattle.ceu_gates.specs.Ranges.{starts, stmt_ranges, block_ranges, arm_ranges, nodes_ranges, arms_ranges, blocks_ranges}
 use Rattle.ceu_slots.specs.Law.{StmtSized, BlockSized, ArmSized, NodesSized, ArmsSized, BlocksSized}
 use Rattle.ceu_shape.specs.Plans.{Plan}
 use Rattle.ceu_shape.specs.Searches.{ty_or_none, ty_of_event, ty_of_result, escape_target, pool_size}
 use Rattle.ceu_placed.specs.Fits.{PlanFits, slot_count, node_count}
-use Rattle.ceu_placed.specs.There.{IsSome, SlotThere, LocThere, TargetThere, KeptThere, AliasThere, ExpThere, ExpIfThere, ExpsThere, TurnsThere, EscapeThere, LoopThere, BranchesThere, OwnThere, BlockOwn, PartsThere, BlockThere, ArmThere, NodesThere, ArmsThere, BlocksThere}
+use Rattle.ceu_placed.specs.There.{IsSome, SlotThere, TargetThere, KeptThere, ExpThere, TurnsThere, LoopThere, BranchesThere, OwnThere, PartsThere, BlockThere, ArmThere, NodesThere, ArmsThere, BlocksThere}
 use Rattle.ceu_placed.proofs.Slots.{all_split}
-use Rattle.ceu_placed.proofs.Typed.{exp_there, given_there}
-use Rattle.ceu_placed.proofs.Scopes.{AllSeen, OuterFine, SlotsThere, reads_there, asks_there, alias_there, pool_there, taken_alias_there, takes_there, takes_if_there, gives_there, gives_if_there, gives_all_there, declared_fine, port_there, event_there, CodeThere, code_there}
+use Rattle.ceu_placed.proofs.Typed.{exp_there}
+use Rattle.ceu_placed.proofs.Scopes.{AllSeen, OuterFine, SlotsThere, reads_there, asks_there, alias_there, pool_there, taken_alias_there, takes_there, takes_if_there, gives_there, gives_if_there, gives_all_there, declared_fine, port_there, event_there, code_there}
 use Rattle.ceu_placed.proofs.GateTables.{Kept, AllKept}
-use Rattle.ceu_placed.proofs.Grounds.{Ground, ground_head, ground_append, block_ground, AimsWithin, AimWithin, escape_within, loop_within, do_within, turns_within}
+use Rattle.ceu_placed.proofs.Grounds.{Ground, ground_head, ground_append, block_ground, AimsWithin, escape_within, loop_within, do_within, turns_within}
 use Rattle.ceu_placed.proofs.Declared.{trail_outside, BodiesThere, decls_there, Tables, own_gates_few}
 use Rattle.ceu_placed.proofs.Searched.{turns_seen, turns_place}
 
@@ -105,6 +103,11 @@ module _ (P : Plan) (K : Kernel) (fits : PlanFits P K) (proper : Proper K) (oute
   branches_there par.Or slot n ok h = tt
   branches_there par.And slot zero ok h = absurd (false≢true ok)
   branches_there par.And slot (suc n) ok h = range_there slot (suc n) h (omega arith)
+
+  two_branches : (k : ParKind) (slot n : ℕ) → par_ok K k slot n ≡ true → 2 ≤ n
+  two_branches par.Never slot n ok = leb-true 2 n (and_parts (nat_le 2 n) (slot == 0) ok).0
+  two_branches par.Or slot n ok = leb-true 2 n (and_parts (nat_le 2 n) (slot == 0) ok).0
+  two_branches par.And slot n ok = leb-true 2 n ok
 
   loop_there : (sc : Scope) (k : KLoop) → AllSeen P K sc.seen → SlotsThere P K (loop_slots k) → loop_ok K sc k ≡ true → LoopThere P K k × TurnsThere P K k
   loop_there sc turns.Free seen h ok = (tt, tt)
@@ -214,8 +217,9 @@ module _ (P : Plan) (K : Kernel) (fits : PlanFits P K) (proper : Proper K) (oute
         )
     stmt_there sc n g (Par' k slot _ bs) at own part sized ok =
         let x = and_parts (is_trail sc.place && par_ok K k slot (row_length bs)) (blocks_ok K names sc bs) ok in
-        let s = all_split (SlotThere P K) (par_slots k slot (row_length bs)) (blocks_slots bs) part.slots in (
-          branches_there k slot (row_length bs) (and_parts (is_trail sc.place) (par_ok K k slot (row_length bs)) x.0).1 s.0,
+        let s = all_split (SlotThere P K) (par_slots k slot (row_length bs)) (blocks_slots bs) part.slots in
+        let test = (and_parts (is_trail sc.place) (par_ok K k slot (row_length bs)) x.0).1 in (
+          (two_branches k slot (row_length bs) test, branches_there k slot (row_length bs) test s.0),
           blocks_there sc (n + 1) g bs at (record { nodes = part.nodes; slots = s.1; ranges = part.ranges }) (λ e. (sized e).1) x.1,
         )
 

@@ -1,12 +1,12 @@
 -- The labels of the whole code.
-use Rattle.std.proofs.Common.{◌≡◌, refl, sym, ap, ◌∙◌, ℕ, ◌+◌, ◌*◌, ◌<◌, ◌≤◌, Bool, true, false, IsTrue, ◌&&◌, None, List, [], ◌∷◌, ◌++◌, length, if◌then◌else◌, zero-add, arith}
+use Rattle.std.proofs.Common.{◌≡◌, refl, ap, ◌∙◌, ℕ, ◌+◌, ◌*◌, ◌<◌, ◌≤◌, true, None, List, [], ◌∷◌, ◌++◌, length, if◌then◌else◌, zero-add, arith}
 use Rattle.std.specs.Prelude.{nat_lt}
 use Rattle.std.proofs.lemmas.Bool.{and_parts}
 use Rattle.std.proofs.lemmas.Bool.Decides.{nat_tests}
 use Rattle.ceu_base.specs.declared.kinds.Pos.{Pos}
 use Rattle.ceu_tree.specs.declared.kernel.Kernel.{Kernel}
-use Rattle.ceu_tree.specs.Numbering.{block_nodes, codes_nodes, counts_from, is_numbered}
-use Rattle.ceu_tree.specs.Proper.{is_proper, Proper, block_ok, codes_ok, body_scope, ports_ok, events_ok}
+use Rattle.ceu_tree.specs.Numbering.{block_nodes, codes_nodes}
+use Rattle.ceu_tree.specs.Proper.{is_proper, Proper, block_ok, codes_ok, body_scope}
 use Rattle.std.specs.List.{AllByRecursion}
 use Rattle.ceu_base.specs.declared.kinds.Ty.TheVariants as ty
 use Rattle.ceu_tree.specs.Mentions.{outer_names_from}
@@ -17,15 +17,12 @@ use Rattle.ceu_shape.specs.Plans.{Plan}
 use Rattle.ceu_shape.specs.Pieces.{numbered}
 use Rattle.ceu_shape.specs.Shape.{kernel_draft, first_fresh, kernel_piece, shape_positions, shape_lines}
 use Rattle.ceu_placed.specs.Laws.{MarkEachLabelOnce, MarkNoLabelTwice, MarkWhatIsNamed}
-use Rattle.ceu_placed.proofs.Below.{below, below_zero, both_of, both_numbered}
+use Rattle.ceu_placed.proofs.Slots.{numbered_both}
+use Rattle.ceu_placed.proofs.Below.{below, below_zero, both_numbered}
 use Rattle.ceu_placed.proofs.MarkedParts.{kernel_adds}
 use Rattle.ceu_placed.proofs.Named.{Named}
 use Rattle.ceu_placed.proofs.Grounds.{Ground}
-use Rattle.ceu_placed.proofs.NamedParts.{Goes, kernel_goes}
-
-nodes_counted : (K : Kernel) → Proper K → IsTrue (counts_from 0 (block_nodes K.body ++ codes_nodes K.codes))
-unfolding is_proper is_numbered
-nodes_counted K ok = (and_parts _ _ (and_parts _ _ (and_parts _ _ (and_parts _ _ (and_parts _ _ ok).0).0).0).0).0
+use Rattle.ceu_placed.proofs.NamedParts.{kernel_goes}
 
 -- what the lines of any positions mark
 marks_of : (P : Plan) (K : Kernel) → Proper K → (number : Pos → ℕ) (label : ℕ) → marks label ((kernel_piece P K).lines number) ≡ below label (kernel_piece P K).next
@@ -33,7 +30,7 @@ unfolding kernel_piece
 marks_of P K ok number label =
     let nodes : List ℕ = block_nodes K.body ++ codes_nodes K.codes in
     let all = (kernel_adds P K label number (first_fresh K)).is in
-    let own = both_numbered label 0 nodes (nodes_counted K ok) in
+    let own = both_numbered label 0 nodes (numbered_both K ok).0 in
     let there : below label (2 * (0 + length nodes)) ≡ below label (first_fresh K) = ap (λ n. below label (2 * n)) (zero-add (length nodes)) in
     omega (arith, all, own, there, below_zero label)
 
@@ -78,7 +75,7 @@ goes_of P K ok number =
     let nodes : List ℕ = block_nodes K.body ++ codes_nodes K.codes in
     let bound : ℕ = (kernel_draft P K (first_fresh K)).next in
     let grown : first_fresh K ≤ bound = (kernel_adds P K 0 number (first_fresh K)).grows in
-    let ground : Ground (length nodes) 0 nodes = record { counts = nodes_counted K ok; fits = omega arith } in
+    let ground : Ground (length nodes) 0 nodes = record { counts = (numbered_both K ok).0; fits = omega arith } in
     let parts = body_proper K ok in
     (kernel_goes bound number (length nodes) grown P K (outer_names_from [] K.codes) ground parts.0 parts.1 (first_fresh K)).named (omega arith)
 

@@ -3,7 +3,6 @@ use Rattle.std.specs.Prelude.{◌≡◌, ℕ, ◌<◌, ◌≤◌, Bool, List, �
 use Rattle.ceu_tree.specs.declared.kernel.Kernel.{Kernel}
 use Rattle.ceu_tree.specs.Needs.{slots, gates}
 use Rattle.ceu_tree.specs.Numbering.{block_nodes, block_slots, codes_nodes, codes_slots}
-use Rattle.ceu_tree.specs.Proper.{Proper}
 use Rattle.ceu_tree.specs.Weight.{weight}
 use Rattle.ceu_slots.specs.Law.{KeepsPlaces}
 use Rattle.ceu_slots.specs.Plans.{Planned, Lawful, HasPlaces}

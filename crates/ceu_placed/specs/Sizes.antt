@@ -1,5 +1,5 @@
 -- How much the code of a kernel takes at most, by the weight of the kernel.
-use Rattle.std.specs.Prelude.{◌≡◌, ℕ, ◌+◌, ◌*◌, ◌<◌, ◌≤◌, max, List, ◌++◌, length, Some, slice_get}
+use Rattle.std.specs.Prelude.{◌≡◌, ◌+◌, ◌*◌, ◌≤◌, max, ◌++◌, length, Some, slice_get}
 use Rattle.std.specs.List.{AllByRecursion}
 use Rattle.ceu_base.specs.declared.kinds.Pos.{Pos}
 use Rattle.ceu_tree.specs.declared.kernel.Kernel.{Kernel}
@@ -9,6 +9,7 @@ use Rattle.ceu_tree.specs.Proper.{Proper}
 use Rattle.ceu_asm.specs.Lines.{code_size, IsWhole}
 use Rattle.ceu_shape.specs.Plans.{Plan}
 use Rattle.ceu_shape.specs.Pieces.{numbered}
+use Rattle.ceu_shape.specs.Searches.{kernel_pools}
 use Rattle.ceu_shape.specs.Shape.{kernel_piece, shape_positions, shape_lines}
 
 -- the bytes of the code are at most the weight, and 12 at least are allowed
@@ -26,6 +27,10 @@ PositionsAreFew = (P : Plan) (K : Kernel) → length (shape_positions P K) ≤ w
 -- a kernel of a weight has few nodes: one for each 24, and one
 abbrev pub NodesAreFew : Type 0
 NodesAreFew = (K : Kernel) → 24 * length (block_nodes K.body ++ codes_nodes K.codes) ≤ weight K + 24
+
+-- each of its pools is 48 of its weight
+abbrev pub PoolsAreFew : Type 0
+PoolsAreFew = (K : Kernel) → 48 * length (kernel_pools K) ≤ weight K
 
 -- the labels that it takes are below twice the weight and 3
 abbrev pub LabelsAreFew : Type 0

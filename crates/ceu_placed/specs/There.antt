@@ -1,5 +1,5 @@
 -- What the parts of a kernel name is there: slots, nodes, ports, events, codes and pools by their numbers, and values of types.
-use Rattle.std.specs.Prelude.{◌≡◌, ◌≢◌, ℕ, ◌+◌, ◌*◌, ◌^◌, ◌<◌, ◌≤◌, List, [], ◌∷◌, ◌++◌, length, Option, Some, None}
+use Rattle.std.specs.Prelude.{◌≢◌, ℕ, ◌+◌, ◌^◌, ◌<◌, ◌≤◌, List, [], ◌∷◌, length, Option, Some, None}
 use Rattle.ceu_base.specs.Values.{IsValue}
 use Rattle.ceu_base.specs.declared.kinds.Ty.{Ty}
 use Rattle.ceu_base.specs.declared.kinds.Ty.TheVariants as ty
@@ -115,7 +115,7 @@ module _ (P : Plan) (K : Kernel) where
   OwnThere (Break m) = m < node_count K
   OwnThere (Continue m) = m < node_count K
   OwnThere (Loop k b) = LoopThere k
-  OwnThere (Par' k slot _ bs) = BranchesThere k slot (row_length bs)
+  OwnThere (Par' k slot _ bs) = (2 ≤ row_length bs) × BranchesThere k slot (row_length bs)
   OwnThere _ = Unit {0}
 
   -- ---- declarations
