@@ -131,7 +131,7 @@ module _ (P : Plan) (K : Kernel) (number : Pos → ℕ) where
       let g : List Line = goto (end_label (node_of_block b)) ∷ [] in
       light_to number d (text g) fresh s w 0 l q 0 3 0 0 0 0 (w + 3) 0 l q (omega arith) (omega arith) (omega arith) h (light_text number g (d fresh).next 3 (omega arith))
 
-  whole_light : (n : ℕ) (p : Pos) (s : KStmt) (parts : ℕ → Draft) (w : ℕ) →
+  pub whole_light : (n : ℕ) (p : Pos) (s : KStmt) (parts : ℕ → Draft) (w : ℕ) →
       ((begin fresh : ℕ) → Light number (parts begin) fresh (3 * expression_count s + 45 * heads s) (w + 3) (2 * expression_count s + heads s) w w) →
       (fresh : ℕ) → Light number (with_parts P K n p s parts) fresh (12 + 8 * finalizers s) (48 + w) 0 (48 + w) (48 + w)
   whole_light n p s parts w h fresh =
@@ -153,7 +153,7 @@ module _ (P : Plan) (K : Kernel) (number : Pos → ℕ) where
   mutual
     unfolding parts_draft stmt_weight nodes_finalizers
 
-    parts_light : (s : KStmt) (begin fresh : ℕ) → Light number (parts_draft P K s begin) fresh (3 * expression_count s + 45 * heads s) (stmt_weight s + 3) (2 * expression_count s + heads s) (stmt_weight s) (stmt_weight s)
+    pub parts_light : (s : KStmt) (begin fresh : ℕ) → Light number (parts_draft P K s begin) fresh (3 * expression_count s + 45 * heads s) (stmt_weight s + 3) (2 * expression_count s + heads s) (stmt_weight s) (stmt_weight s)
     parts_light (Assign l e) begin fresh = alone 1 (exp_weight e) (exp_part P K begin e) fresh (exp_part_light begin e fresh)
     parts_light (Out k e) begin fresh = alone (count_if e) (weight_if e) (exp_part_if P K begin e) fresh (exp_if_light begin e fresh)
     parts_light (Emit k e) begin fresh = alone (count_if e) (weight_if e) (exp_part_if P K begin e) fresh (exp_if_light begin e fresh)
@@ -184,7 +184,7 @@ module _ (P : Plan) (K : Kernel) (number : Pos → ℕ) where
         light_as number (blocks_parts P K bs) fresh (45 * c) w c w w (3 * 0 + 45 * c) (w + 3) (2 * 0 + c) w w (omega arith) (omega arith) (omega arith) (blocks_light bs fresh)
     parts_light _ begin fresh = light_as number nothing fresh 0 0 0 0 0 0 (0 + 3) 0 0 0 (omega arith) (omega arith) (omega arith) (light_nothing number fresh)
 
-    block_light : (b : KBlock) (fresh : ℕ) → Light number (block_draft P K b) fresh (12 * things b) (block_weight b) 0 (block_weight b) (block_weight b)
+    pub block_light : (b : KBlock) (fresh : ℕ) → Light number (block_draft P K b) fresh (12 * things b) (block_weight b) 0 (block_weight b) (block_weight b)
     block_light (KBlock' n ds x list) fresh = around_light n ds list (nodes_draft P K list) (nodes_weight list) fresh (λ f. nodes_light list f)
 
     nodes_light : {n : _} (rows : Row_of-KNode n) (fresh : ℕ) → Light number (nodes_draft P K rows) fresh (12 * row_count rows + 8 * nodes_finalizers rows) (nodes_weight rows) 0 (nodes_weight rows) (nodes_weight rows)
@@ -238,7 +238,7 @@ module _ (P : Plan) (K : Kernel) (number : Pos → ℕ) where
   zero_size ty.U64 ls = omega arith
   zero_size ty.S64 ls = omega arith
 
-  body_light : (b : KBlock) (t : Ty) (end : List Line) → code_size end ≤ 1 → (fresh : ℕ) →
+  pub body_light : (b : KBlock) (t : Ty) (end : List Line) → code_size end ≤ 1 → (fresh : ℕ) →
       Light number (body_draft P K b (zero_given P K t) end) fresh (12 * things b) (block_weight b + 12) 0 (block_weight b) (block_weight b)
   body_light b t end one fresh =
       let w : ℕ = block_weight b in

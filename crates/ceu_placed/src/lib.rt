@@ -3,7 +3,7 @@
 
 ghost use Rattle.ceu_placed.specs.Laws.{MarkEachLabelOnce, MarkNoLabelTwice, MarkWhatIsNamed, NamesAreThere, OperandsAreInRange, ShapeIsPlaced};
 ghost use Rattle.ceu_placed.specs.Fits.{MadePlansFit};
-ghost use Rattle.ceu_placed.specs.Sizes.{CodeIsShort, CodeIsWhole, LabelsAreFew, NodesAreFew, PoolsAreFew, PositionsAreFew, PositionsAreListed};
+ghost use Rattle.ceu_placed.specs.Sizes.{BlocksAreLight, CodeIsShort, CodeIsWhole, CodesAreLight, LabelsAreFew, NodesAreFew, PoolsAreFew, PositionsAreFew, PositionsAreListed, StatementsAreLight};
 
 /// In the lines of a proper kernel each label that was taken is marked by one line, and no other label by any; so each label that a line goes to is
 /// marked once.
@@ -19,14 +19,21 @@ pub fn code_is_short()
     ensures whole { CodeIsWhole }
 {}
 
-/// A kernel's nodes and pools, the labels that its code takes and the positions that it names are few by its weight, and each position that is named stands in
-/// the list at its number.
+/// A kernel's nodes and pools, the labels that its code takes and the positions that it names are few by its weight, and each position that is named
+/// stands in the list at its number.
 pub fn positions_are_few()
     ensures positions { PositionsAreFew }
     ensures nodes { NodesAreFew }
     ensures pools { PoolsAreFew }
     ensures labels { LabelsAreFew }
     ensures listed { PositionsAreListed }
+{}
+
+/// Each part of a kernel takes at most as many bytes, labels and positions as its weight.
+pub fn parts_are_light()
+    ensures blocks { BlocksAreLight }
+    ensures statements { StatementsAreLight }
+    ensures codes { CodesAreLight }
 {}
 
 /// The plans of slots and of gates that are made of a kernel fit it.
