@@ -1,5 +1,5 @@
 -- The code of a kernel is short, and its positions and labels are few.
-use Rattle.std.proofs.Common.{[], arith, [], ◌∷◌}
+use Rattle.std.proofs.Common.{[], ◌∷◌, arith}
 use Rattle.ceu_base.specs.declared.kinds.Pos.{Pos}
 use Rattle.ceu_tree.specs.Weight.{stmt_weight}
 use Rattle.ceu_code.specs.declared.instr.Instr.TheVariants as instr
