@@ -1,0 +1,9 @@
+pub mod Meeting
+pub mod Operands
+pub mod Noting
+pub mod Passing
+pub mod Expressing
+pub mod Giving
+pub mod Meaning
+pub mod Naming
+pub mod Walking
