@@ -7,6 +7,7 @@ use Rattle.ceu_tree.specs.declared.kernel.Kernel.{Kernel}
 use Rattle.ceu_tree.specs.declared.kernel.KCode.{KCode}
 use Rattle.ceu_tree.specs.declared.kernel.KEvent.{KEvent}
 use Rattle.ceu_tree.specs.declared.kernel.KDecl.{KDecl}
+use Rattle.ceu_tree.specs.declared.kernel.KKind.{KKind}
 use Rattle.ceu_tree.specs.declared.kernel.KKind.TheVariants as kind
 use Rattle.ceu_tree.specs.declared.kernel.KLoop.{KLoop}
 use Rattle.ceu_tree.specs.declared.kernel.KLoop.TheVariants as turns
@@ -61,9 +62,13 @@ TimeGiven e u =
     IsTrue (typed reads asks e && is_amount e.ty && (not (is_open e) || same_ty e.ty ty.S32 || is_literal e u))
 
 -- the arguments of code with these parameters
+abbrev pub ArgGiven : KKind → KExp → Type 0
+ArgGiven (kind.Var t) e = ExpGiven t e
+ArgGiven _ e = ⊥
+
 abbrev pub ArgsGiven : List KDecl → List KExp → Type 0
 ArgsGiven [] [] = ⊤
-ArgsGiven (d ∷ ds) (e ∷ es) = (elim d.kind [ kind.Var t ↦ ExpGiven t e | _ ↦ ⊥ ]) × ArgsGiven ds es
+ArgsGiven (d ∷ ds) (e ∷ es) = ArgGiven d.kind e × ArgsGiven ds es
 ArgsGiven _ _ = ⊥
 
 -- ---- targets
@@ -100,8 +105,12 @@ abbrev pub TurnsTyped : KLoop → Type 0
 TurnsTyped (turns.Range i next end open_a a b open_b) = ExpGiven ty.S32 a × ExpGiven ty.S32 b
 TurnsTyped _ = ⊤
 
+abbrev pub KindTyped : KKind → Type 0
+KindTyped (kind.Var t) = IsTrue (not (same_ty t ty.None))
+KindTyped _ = ⊤
+
 abbrev pub DeclTyped : KDecl → Type 0
-DeclTyped d = elim d.kind [ kind.Var t ↦ IsTrue (not (same_ty t ty.None)) | _ ↦ ⊤ ]
+DeclTyped d = KindTyped d.kind
 
 -- ---- statements of a body, the program's or a code's
 
@@ -158,8 +167,12 @@ abbrev pub BodyTyped : Kernel → Option ℕ → Ty → KBlock → Type 0
 BodyTyped K code t b = BlockTyped K code (BodyAim (out-KBlock b).node t ∷ []) b
 
 -- a parameter is a variable with a type
+abbrev pub IsTyped : KKind → Type 0
+IsTyped (kind.Var t) = IsTrue (not (same_ty t ty.None))
+IsTyped _ = ⊥
+
 abbrev pub ParamTyped : KDecl → Type 0
-ParamTyped d = elim d.kind [ kind.Var t ↦ IsTrue (not (same_ty t ty.None)) | _ ↦ ⊥ ]
+ParamTyped d = IsTyped d.kind
 
 abbrev pub CodeTyped : Kernel → ℕ → KCode → Type 0
 CodeTyped K k c = AllOf ParamTyped c.params × IsTrue (nat_le (length c.params) 255) × BodyTyped K (Some k) c.result c.body
