@@ -7,3 +7,8 @@ pub mod Giving
 pub mod Meaning
 pub mod Naming
 pub mod Walking
+pub mod Running
+pub mod Holding
+pub mod Arguments
+pub mod Using
+pub mod Leaves
