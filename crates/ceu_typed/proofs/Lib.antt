@@ -12,3 +12,4 @@ pub mod Holding
 pub mod Arguments
 pub mod Using
 pub mod Leaves
+pub mod Awaiting

@@ -266,9 +266,9 @@ module _ (s : Scopes) (numbers : List ℕ) (K : Kernel) where
     shown_goes x k w v d means e = subst (λ v. Goes w d v d) (sym (shown_ok x k w v e)) (shown_at x k w d means)
 
     -- what was declared stands there
-    pub stands_there : (c : Class) (t : Ty) (r : Option Rule) (x : Ident) (n : ℕ) (w v u : Walk) (d e f : Draft) → declared c t r x w ≡ Ok v → e.numbers ≡ d.numbers ++ n ∷ [] → Prefix v.decls s.decls → Prefix e.numbers numbers → Now w d →
+    pub stands_there : (c : Class) (t : Ty) (r : Option Rule) (x : Ident) (n : ℕ) (w v : Walk) (d e : Draft) → declared c t r x w ≡ Ok v → e.numbers ≡ d.numbers ++ n ∷ [] → Prefix v.decls s.decls → Prefix e.numbers numbers → Now w d →
         (P : Decl → ℕ → Type 0) → ((y : Decl) → y.class ≡ c → y.ty ≡ t → P y n) → Stands s numbers K c (length w.decls) P
-    stands_there c t r x n w v u d e f is takes decls given now P so =
+    stands_there c t r x n w v d e is takes decls given now P so =
         let y : Decl = record { class = c; ty = t; pos = x.pos; block = block_of w.scopes; name = x.name } in
         let all : s.decls ≡ w.decls ++ (y ∷ decls.0) = decls.1 ∙ ap (λ (v : Walk). v.decls ++ decls.0) (declared_ok c t r x w v is) ∙ append_assoc w.decls (y ∷ []) decls.0 in
         let ns : numbers ≡ d.numbers ++ (n ∷ given.0) = given.1 ∙ ap (λ xs. xs ++ given.0) takes ∙ append_assoc d.numbers (n ∷ []) given.0 in

@@ -10,13 +10,14 @@ use Rattle.ceu_scopes.specs.Shown.{rest_of}
 use Rattle.ceu_types.specs.declared.typing.Types.{Types}
 use Rattle.ceu_types.specs.declared.found.Found.{Found}
 use Rattle.ceu_expand.specs.declared.draft.Draft.{Draft}
-use Rattle.ceu_expand.specs.Draft.{begun, placed}
+use Rattle.ceu_expand.specs.Draft.{begun, placed, outside, opened, closed, around_block}
 use Rattle.ceu_exits.proofs.Fine.{Fine}
 use Rattle.ceu_exits.proofs.Beside.{Level}
+use Rattle.ceu_exits.proofs.Beside as exits
 use Rattle.ceu_typed.proofs.Noting as noting
-use Rattle.ceu_typed.proofs.Noting.{Prefix, begun_step, placed_step}
+use Rattle.ceu_typed.proofs.Noting.{Prefix, begun_step, placed_step, opened_step, draft_step}
 use Rattle.ceu_typed.proofs.Naming.{Ends, Now, Goes, Calm, calm_goes}
-use Rattle.ceu_typed.proofs.Walking.{calm_same, calm_begun, calm_placed}
+use Rattle.ceu_typed.proofs.Walking.{calm_same, calm_begun, calm_placed, calm_opened, calm_around}
 use Rattle.ceu_typed.proofs.Expressing.{At}
 
 module _ (s : Scopes) (t : Types) (numbers : List ℕ) (K : Kernel) (code : Option ℕ) where
@@ -89,3 +90,22 @@ module _ (s : Scopes) (t : Types) (numbers : List ℕ) (K : Kernel) (code : Opti
   pub inside_run : (place : Where) (n : ℕ) (p : Pos) (st : KStmt) (w v : Walk) (f g : Found) (d e : Draft) → Step w f (begun d) v g e → Run place w f d v g (placed n p st e) → Run place w f (begun d) v g e
   inside_run place n p st w v f g d e h r =
       first_run place (place_step n p st v g e) (last_run place (begin_step w f d) (step_then h (place_step n p st v g e)) r)
+
+  -- ---- a block around a part
+
+  open_step : (n : ℕ) (w : Walk) (f : Found) (d : Draft) → Step w f d w f (opened n d)
+  open_step n w f d = calm_step w f f d (opened n d) (opened_step s t n f d) (calm_opened n d)
+
+  close_notes : (n : ℕ) (body : Draft → Draft) (f : Found) (d : Draft) → noting.Step s t f (body (opened n d)) f (around_block n body d)
+  unfolding closed
+  close_notes n body f d = draft_step s t f (body (opened n d)) (around_block n body d) (exits.draft_step s f (body (opened n d)) (around_block n body d) refl (omega arith) refl) refl
+
+  close_step : (n : ℕ) (body : Draft → Draft) (w : Walk) (f : Found) (d : Draft) → Step w f (body (opened n d)) w f (around_block n body d)
+  close_step n body w f d = calm_step w f f (body (opened n d)) (around_block n body d) (close_notes n body f d) (calm_around n body d)
+
+  pub block_step : (n : ℕ) (body : Draft → Draft) (w v : Walk) (f g : Found) (d : Draft) → Step w f (opened n d) v g (body (opened n d)) → Step w f d v g (around_block n body d)
+  block_step n body w v f g d h = step_then (open_step n w f d) (step_then h (close_step n body v g d))
+
+  pub block_run : (place : Where) (n : ℕ) (body : Draft → Draft) (w v : Walk) (f g : Found) (d : Draft) → Step w f (opened n d) v g (body (opened n d)) → Run place w f d v g (around_block n body d) →
+      Run place w f (opened n d) v g (body (opened n d))
+  block_run place n body w v f g d h r = first_run place (close_step n body v g d) (last_run place (open_step n w f d) (step_then h (close_step n body v g d)) r)

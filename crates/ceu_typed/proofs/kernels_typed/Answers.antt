@@ -1,5 +1,5 @@
-use Rattle.ceu_typed.proofs.Leaves.{spawned_part}
+use Rattle.ceu_typed.proofs.Awaiting.{await_part}
 use Rattle.ceu_typed.proofs.kernels_typed.Goals as goal
 
 pub returns : goal.returns
-returns c = let g = spawned_part in ?
+returns c = let g = await_part in ?
