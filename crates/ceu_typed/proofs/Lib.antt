@@ -13,3 +13,4 @@ pub mod Arguments
 pub mod Using
 pub mod Leaves
 pub mod Awaiting
+pub mod Declaring

@@ -247,23 +247,28 @@ module _ (s : Scopes) (numbers : List ℕ) (K : Kernel) where
     with_name_rest x k [] = refl
     with_name_rest x k (s ∷ outside) = refl
 
-    pub shown_ok : (x : Ident) (k : Known) (w v : Walk) → shown x k w ≡ Ok v → v ≡ record w { scopes = with_name x.name k w.scopes }
+    shown_ok : (x : Ident) (k : Known) (w v : Walk) → shown x k w ≡ Ok v → v ≡ record w { scopes = with_name x.name k w.scopes }
     unfolding shown
     shown_ok x k w v e = sym (ok_is (record w { scopes = with_name x.name k w.scopes }) v (Ok (record w { scopes = with_name x.name k w.scopes })) refl e)
 
-    shown_at : (x : Ident) (k : Known) (w : Walk) (d : Draft) → (Ends w d → Now w d → Means s numbers K code (length d.numbers) k) → Goes w d (record w { scopes = with_name x.name k w.scopes }) d
-    shown_at x k w d means =
-        let back : Ends (record w { scopes = with_name x.name k w.scopes }) d → Ends w d = λ h. record { uses = h.uses; decls = h.decls; plain = h.plain; given = h.given; inputs = h.inputs; outputs = h.outputs; events = h.events; codes = h.codes } in
+    -- a name is shown, which stands for something
+    pub record Shown (k : Known) (w v : Walk) (d : Draft) : Type 0 where
+      pub ends : Ends v d → Ends w d
+      pub now : Means s numbers K code (length d.numbers) k → Now w d → Now v d
+      pub rest : rest_of v.scopes ≡ rest_of w.scopes
+      pub decls : v.decls ≡ w.decls
+
+    shown_at : (x : Ident) (k : Known) (w : Walk) (d : Draft) → Shown k w (record w { scopes = with_name x.name k w.scopes }) d
+    shown_at x k w d =
         record {
-          ends = back;
-          now = λ h n. record { uses = n.uses; decls = n.decls; shows = with_name_all (Means s numbers K code (length d.numbers)) x.name k w.scopes (means (back h) n) n.shows };
+          ends = λ h. record { uses = h.uses; decls = h.decls; plain = h.plain; given = h.given; inputs = h.inputs; outputs = h.outputs; events = h.events; codes = h.codes };
+          now = λ means n. record { uses = n.uses; decls = n.decls; shows = with_name_all (Means s numbers K code (length d.numbers)) x.name k w.scopes means n.shows };
           rest = with_name_rest x.name k w.scopes;
-          up = omega arith;
+          decls = refl;
         }
 
-    -- a name is shown, which stands for this
-    pub shown_goes : (x : Ident) (k : Known) (w v : Walk) (d : Draft) → (Ends w d → Now w d → Means s numbers K code (length d.numbers) k) → shown x k w ≡ Ok v → Goes w d v d
-    shown_goes x k w v d means e = subst (λ v. Goes w d v d) (sym (shown_ok x k w v e)) (shown_at x k w d means)
+    pub shown_by : (x : Ident) (k : Known) (w v : Walk) (d : Draft) → shown x k w ≡ Ok v → Shown k w v d
+    shown_by x k w v d e = subst (λ v. Shown k w v d) (sym (shown_ok x k w v e)) (shown_at x k w d)
 
     -- what was declared stands there
     pub stands_there : (c : Class) (t : Ty) (r : Option Rule) (x : Ident) (n : ℕ) (w v : Walk) (d e : Draft) → declared c t r x w ≡ Ok v → e.numbers ≡ d.numbers ++ n ∷ [] → Prefix v.decls s.decls → Prefix e.numbers numbers → Now w d →
