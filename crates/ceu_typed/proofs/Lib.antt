@@ -14,3 +14,4 @@ pub mod Using
 pub mod Leaves
 pub mod Awaiting
 pub mod Declaring
+pub mod Wrapping

@@ -296,7 +296,7 @@ module _ (s : Scopes) (numbers : List ℕ) (K : Kernel) where
     unfolding opened
     opened_ends b w d h = record { uses = h.uses; decls = h.decls; plain = h.plain; given = h.given; inputs = h.inputs; outputs = h.outputs; events = h.events; codes = h.codes }
 
-    opened_rest : (b : Border) (w : Walk) → (rest_of (opened b w).scopes ≡ w.scopes) × ((opened b w).decls ≡ w.decls)
+    pub opened_rest : (b : Border) (w : Walk) → (rest_of (opened b w).scopes ≡ w.scopes) × ((opened b w).decls ≡ w.decls)
     unfolding opened
     opened_rest b w = (refl, refl)
 

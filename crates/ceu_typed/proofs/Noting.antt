@@ -81,7 +81,7 @@ module _ (s : Scopes) (t : Types) where
   unfolding asks
   asks_types test r p f = asked_types test f _ refl
 
-  own_types : (test : Bool) (r : Rule) (f : Found) → (asks_own test r f).types ≡ f.types
+  pub own_types : (test : Bool) (r : Rule) (f : Found) → (asks_own test r f).types ≡ f.types
   unfolding asks_own
   own_types test r f = asked_types test f _ refl
 

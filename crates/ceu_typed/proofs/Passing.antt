@@ -153,7 +153,7 @@ module _ (s : Scopes) (t : Types) where
   unfolding found_around.jumped
   jumped_step a f d = by_none a.in_loop f f _ d (none_step s t f d) (step_then s t (own_step s t false _ f d) (async_step s t (asks_own false _ f) d))
 
-  left_step : (u : Option Ty) (e : Option Exp) (f : Found) (d : Draft) → Step s t f d (found_around.escaped u e f) d
+  pub left_step : (u : Option Ty) (e : Option Exp) (f : Found) (d : Draft) → Step s t f d (found_around.escaped u e f) d
   unfolding found_around.escaped
   left_step None e f d = step_then s t (own_step s t false _ f d) (async_step s t (asks_own false _ f) d)
   left_step (Some u) e f d = own_step s t _ _ f d
