@@ -15,3 +15,4 @@ pub mod Leaves
 pub mod Awaiting
 pub mod Declaring
 pub mod Wrapping
+pub mod Around
