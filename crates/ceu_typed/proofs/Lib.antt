@@ -16,3 +16,5 @@ pub mod Awaiting
 pub mod Declaring
 pub mod Wrapping
 pub mod Around
+pub mod Blocks
+pub mod Statements
