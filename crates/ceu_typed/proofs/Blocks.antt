@@ -20,7 +20,7 @@ use Rattle.ceu_scopes.specs.Names.{labelled, unlabelled}
 use Rattle.ceu_types.specs.declared.typing.Types.{Types}
 use Rattle.ceu_types.specs.declared.found.Found.{Found}
 use Rattle.ceu_types.specs.Typing.{is_none_type, holds}
-use Rattle.ceu_types.specs.Notes.{asks, asks_own, passed, not_in_every, not_in_async, not_in_finalizer}
+use Rattle.ceu_types.specs.Notes.{asks, asks_own, past, passed, not_in_every, not_in_async, not_in_finalizer}
 use Rattle.ceu_types.specs.Around as types
 use Rattle.ceu_types.specs.Statements.{taken, waits, acts, name_typed, every_ended}
 use Rattle.ceu_expand.specs.declared.around.Around as draft_around
@@ -104,6 +104,14 @@ waits_names f = refl
 pub taken_names : (s : Scopes) (u value : Ty) (f : Found) → (taken u value (waits f)).names ≡ f.names
 unfolding taken
 taken_names s u value f = names_by s (is_none_type value) u value (waits f) ∙ waits_names f
+
+pub taken_same : (s : Scopes) (u value : Ty) (f : Found) → (taken u value f).names ≡ f.names
+unfolding taken
+taken_same s u value f = names_by s (is_none_type value) u value f
+
+pub passed_names : (s : Scopes) (f : Found) → (passed s f).names ≡ past s f.names
+unfolding passed
+passed_names s f = refl
 
 pub taken_takes : (place : Where) (u value : Ty) (f : Found) (l : Loc) → Fine place (taken u value f) → u ≡ l.ty → MaybeTakes value (Some l)
 unfolding taken

@@ -36,12 +36,12 @@ use Rattle.ceu_scopes.specs.Names.{exp_walked, ident_declared, port_declared, va
 use Rattle.ceu_types.specs.declared.typing.Types.{Types}
 use Rattle.ceu_types.specs.declared.found.Found.{Found}
 use Rattle.ceu_types.specs.declared.around.Around as types_around
-use Rattle.ceu_types.specs.Notes.{passed, not_in_finalizer, begun, ended}
+use Rattle.ceu_types.specs.Notes.{past, passed, not_in_finalizer, begun, ended}
 use Rattle.ceu_types.specs.Uses.{use_type}
 use Rattle.ceu_types.specs.Expressions.{condition, given}
 use Rattle.ceu_types.specs.Around as types
 use Rattle.ceu_types.specs.Around.{async_around, loop_around, do_around}
-use Rattle.ceu_types.specs.Statements.{target_found, taken, waits, acts, await_found, await_type, name_typed, uses_passed, every_takes, every_begun, every_ended, finalizer_begun, finalizer_ended, async_begun, async_ended, stmt_found, source_found, value_found, do_found, block_found, last_found, range_found, items_found, arms_found, blocks_found, nodes_found}
+use Rattle.ceu_types.specs.Statements.{target_found, target_type, taken, waits, acts, await_found, await_type, name_typed, uses_passed, every_takes, every_begun, every_ended, finalizer_begun, finalizer_ended, async_begun, async_ended, stmt_found, source_found, value_found, do_found, block_found, last_found, range_found, items_found, arms_found, blocks_found, nodes_found}
 use Rattle.ceu_expand.specs.declared.around.Around as draft_around
 use Rattle.ceu_expand.specs.declared.draft.Draft.{Draft}
 use Rattle.ceu_expand.specs.Draft as draft
@@ -57,7 +57,8 @@ use Rattle.ceu_proper.proofs.Codes.{NoCode, NoCodeInSource, NoCodeInValue, NoCod
 use Rattle.ceu_proper.proofs.Frames.{frame_used, frame_if_used, frame_labelled, frame_unlabelled, frame_exp, frame_each}
 use Rattle.ceu_visible.proofs.Stepping.{length_more}
 use Rattle.ceu_exits.specs.Exits.{aim_of}
-use Rattle.ceu_exits.proofs.Fine.{Fine, fine_acts}
+use Rattle.ceu_exits.proofs.Fine.{Fine, fine_as, fine_passed}
+use Rattle.ceu_exits.proofs.Beside as exits
 use Rattle.ceu_exits.proofs.Beside.{same_type}
 use Rattle.ceu_exits.proofs.Held.{around_parts, value_of, Rel, rel_step, rel_loop, rel_do, rel_async, rel_finalizer}
 use Rattle.ceu_typed.specs.Times.{Timed, TimedSource, TimedValue, TimedDo, TimedBlock, TimedLast, TimedRange, TimedItems, TimedArms, TimedBlocks, TimedNodes, AwaitTimed, TargetTimed}
@@ -67,7 +68,7 @@ use Rattle.ceu_typed.proofs.Noting.{none_step, acts_step, waits_step, finalizer_
 use Rattle.ceu_typed.proofs.Passing.{given_step, condition_step, taken_step, typed_name_step, names_step, every_step, target_step}
 use Rattle.ceu_typed.proofs.Giving.{given_ok, condition_ok}
 use Rattle.ceu_typed.proofs.Meaning.{HasType}
-use Rattle.ceu_typed.proofs.Naming.{then_ok, ok_is, Ends, Now, Goes, goes_then, named_ok, used_goes, named_goes, alias_goes, declared_goes, shown_by, stands_there}
+use Rattle.ceu_typed.proofs.Naming.{then_ok, ok_is, Ends, Now, Goes, goes_then, named_ok, used_goes, named_goes, alias_goes, declared_ok, declared_goes, shown_by, stands_there}
 use Rattle.ceu_typed.proofs.Walking.{calm_same, calm_hidden, calm_opened, still, exp_goes, target_goes, list_goes}
 use Rattle.ceu_typed.proofs.Using.{written_here}
 use Rattle.ceu_typed.proofs.Running.{Step, Run, of_goes, step_then, found_step, calm_step, first_run, last_run, at_run, begin_step, block_step, block_run}
@@ -77,7 +78,7 @@ use Rattle.ceu_typed.proofs.Awaiting.{target_part, await_part, empty_block, empt
 use Rattle.ceu_typed.proofs.Declaring.{declared_takes, means_there, event_goes, input_goes, output_goes, each_goes, loop_goes, alias_part, pool_part}
 use Rattle.ceu_typed.proofs.Wrapping.{finalizer_names, finalizer_labels, finalizer_level, fine_closed, fine_opened, closed_same, fine_left, left_names, left_labels, entered_async, fine_entered, finalizer_begun_types, finalizer_ended_types, async_ended_types, wrap_step, wrap_run, closed_step, closed_run}
 use Rattle.ceu_typed.proofs.Around.{MainIf, Main, Inner, of_part, main_then, found_then, placed_main, if_main, jump_main, escape_main, node_main}
-use Rattle.ceu_typed.proofs.Blocks.{loop_code, do_code, each_parts, event_parts, input_parts, output_parts, turns_typed, turns_parts, range_parts, taken_names, taken_takes, name_has_type, each_notes, event_notes, input_notes, output_notes, every_notes, turns_step, three_hidden, do_step, do_run}
+use Rattle.ceu_typed.proofs.Blocks.{loop_code, do_code, each_parts, event_parts, input_parts, output_parts, turns_typed, turns_parts, range_parts, taken_names, taken_same, passed_names, taken_takes, name_has_type, each_notes, event_notes, input_notes, output_notes, every_notes, turns_step, three_hidden, do_step, do_run}
 
 -- what a variable or an alias needs that is set so
 abbrev Wants : Source → Ty → Loc → Type 0
@@ -166,8 +167,75 @@ module _ (s : Scopes) (t : Types) (numbers : List ℕ) (K : Kernel) (code : Opti
       let after = last_run s t numbers K code InsideAsync names inner.step run' in
       inner.typed InsideAsync [] (rel_async s b f'' inside names.notes.under.labels after.level) after)
 
+  -- ---- a variable that is declared
+
+  item_main : (a : types_around.Around) (b : draft_around.Around) (u : Ty) (x : Ident) (y : Held-Item-value) (w w1 w2 v : Walk) (f g : Found) (d e : Draft) → declared class.Var u (value_broken y) x w ≡ Ok w1 → shown x (fresh class.Var 0 w) w2 ≡ Ok v →
+      MainIf s t numbers K code (WantsValue y u (own d.parts.slot u)) a b w1 (name_typed u x f) (draft.declared (kind.Var u) x d) w2 g e → Main s t numbers K code a b w f d v g e
+  item_main a b u x y w w1 w2 v f g d e h i value =
+      let into = own d.parts.slot u in
+      let f' = name_typed u x f in
+      let first = draft.declared (kind.Var u) x d in
+      let takes = declared_takes s numbers K code (kind.Var u) x d in
+      let goes = declared_goes s numbers K code class.Var u (value_broken y) x d.parts.slot w w1 d first refl takes h in
+      let one = of_goes s t numbers K code (noting.step_then s t (typed_name_step s t u x f d) (declared_step s t (kind.Var u) x f' d)) goes in
+      let two = value.step in
+      let show = shown_by s numbers K code x (fresh class.Var 0 w) w2 v e i in
+      let has_type : (place : Where) → Fine place g → not (same_ty u ty.None) ≡ true = λ place fine. name_has_type place u x f (two.notes.under.back place fine) in
+      let more : length w1.decls ≡ length w.decls + 1 = ap (λ (w : Walk). length w.decls) (declared_ok s numbers K code class.Var u (value_broken y) x w w1 h) ∙ length_more w.decls _ in
+      let up1 = one.up in
+      let up2 = two.up in
+      let same : length v.decls ≡ length w2.decls = ap length show.decls in
+      record {
+        step = record {
+          notes = noting.step_then s t one.notes two.notes;
+          ends = λ k. one.ends (two.ends (show.ends k));
+          now = λ place fine k now.
+              let below = show.ends k in
+              let inner = two.ends below in
+              let later = two.now place fine below (one.now place (two.notes.under.back place fine) inner now) in
+              let count = later.decls in
+              let there = stands_there s numbers K code class.Var u (value_broken y) x d.parts.slot w w1 d first h takes.takes inner.decls inner.given now HasType (λ z p q. ap (λ r. not (same_ty r ty.None)) q ∙ has_type place fine) in
+              show.now (means_there s numbers K code class.Var 0 (length e.numbers) w (omega (arith, more, up2, count)) there) later;
+          rest = show.rest ∙ two.rest ∙ one.rest;
+          up = omega (arith, up1, up2, same);
+        };
+        holds = λ q place aims rel run k.
+            let typed = has_type place run.fine in
+            let run1 : Run s t numbers K code place w f d w2 g e = record { level = run.level; count = run.count; now = run.now; fine = run.fine; more = run.more; ends = show.ends run.ends } in
+            value.holds (wants_value y u into refl typed) place aims (rel_step s place aims a b f f' d first one.notes.under rel) (last_run s t numbers K code place one two run1) (holds_declared K code aims (kind.Var u) x d typed k);
+      }
+
+  -- ---- the await of an `every`
+
+  every_part : (p : Pos) (x : Option Ident) (target : Target) → TargetTimed target → (w v : Walk) (f : Found) (d : Draft) → every_walked x target w ≡ Ok v →
+      Part s t numbers K code w f d v (target_found s target (every_takes s x target f)) (target_awaited s t p (if_variable s x d) target (if_used x d))
+  unfolding variable
+  every_part p None target timed w v f d h = target_part s t numbers K code p None target timed w v f d h
+  every_part p (Some x) target timed w v f d h =
+      let u = use_type s f.names in
+      let value = target_type s target (past s f.names) in
+      let f1 = taken u value f in
+      let f2 = passed s f1 in
+      let d2 = uses.used d in
+      let into = variable s x d in
+      let m = then_ok (named role.Written x w) (target_walked target) v h in
+      let first = of_goes s t numbers K code (noting.step_then s t (taken_step s t u value f d) (used_step s t f1 d)) (named_goes s numbers K code role.Written x w m.0 d m.1) in
+      let part = target_part s t numbers K code p (Some into) target timed m.0 v f2 d2 m.2 in
+      let names : f2.names ≡ past s f.names = passed_names s f1 ∙ ap (past s) (taken_same s u value f) in
+      record {
+        step = step_then s t numbers K code first part.step;
+        holds = λ q place aims run k.
+            let takes = taken_takes place u value f into (fine_passed s place f1 (part.step.notes.under.back place run.fine)) (same_type s f.names d.uses run.level) in
+            part.holds (subst (λ n. MaybeTakes (target_type s target n) (Some into)) (sym names) takes) place aims (last_run s t numbers K code place first part.step run) (holds_as K code aims d d2 (parts_of d d2 (frame_used d)) k);
+      }
+
+  cleared_step : (w : Walk) (f : Found) (d : Draft) → Step s t numbers K code w f d w (record f { beyond_every = false }) d
+  cleared_step w f d =
+      let g : Found = record f { beyond_every = false } in
+      found_step s t numbers K code w f g d (noting.found_step s t f g d (exits.found_step s f g d refl refl (λ place h. fine_as place f g refl refl refl refl h)) refl)
+
   mutual
-    unfolding NoCode Timed stmt_found stmt_written stmt_walked StmtTyped async_begun every_begun
+    unfolding NoCode Timed stmt_found stmt_written stmt_walked StmtTyped async_begun every_begun range_passed range_written
 
     pub stmt_main : (a : types_around.Around) (b : draft_around.Around) → b.code ≡ code → (p : Pos) (st : Stmt) → NoCode st → Timed st → (w v : Walk) (f : Found) (d : Draft) → stmt_walked st w ≡ Ok v →
         Main s t numbers K code a b w f d v (stmt_found s a st f) (stmt_written s t b p st d)
@@ -328,12 +396,81 @@ module _ (s : Scopes) (t : Types) (numbers : List ℕ) (K : Kernel) (code : Opti
 
     range_main : (a : types_around.Around) (b : draft_around.Around) → b.code ≡ code → (p : Pos) (r : Range) → NoCodeInRange r → TimedRange r → (w v : Walk) (f : Found) (d : Draft) → range_walked r w ≡ Ok v →
         Main s t numbers K code a b w f d v (range_found s a r f) (ranged s t b p r d)
-    range_main a b c p (Range' x open_a low high open_b blk) k z w v f d h = ?
+    range_main a b c p (Range' x open_a low high open_b blk) k z w v f d h =
+        let d' = draft.begun d in
+        let b' = in_loop d.node b in
+        let m4 = then_ok (exp_walked low w >>= exp_walked high >>= range_opened x >>= block_walked blk Plain) closed v h in
+        let m3 = then_ok (exp_walked low w >>= exp_walked high >>= range_opened x) (block_walked blk Plain) m4.0 m4.1 in
+        let m2 = then_ok (exp_walked low w >>= exp_walked high) (range_opened x) m3.0 m3.1 in
+        let m1 = then_ok (exp_walked low w) (exp_walked high) m2.0 m2.1 in
+        let three = range_hidden d' in
+        let d1 = exp_passed low three in
+        let d2 = exp_passed high d1 in
+        let inside = standing d'.slot d2 in
+        let f1 = given s low ty.S32 f in
+        let f2 = given s high ty.S32 f1 in
+        let g = block_found s (loop_around a) blk f2 in
+        let e = block_passed s t b' blk inside in
+        let hide = three_hidden s t numbers K code w f d' in
+        let one = of_goes s t numbers K code (given_step s t low ty.S32 f three) (exp_goes s numbers K code low w m1.0 three m1.1) in
+        let two = of_goes s t numbers K code (given_step s t high ty.S32 f1 d1) (exp_goes s numbers K code high m1.0 m2.0 d1 m1.2) in
+        let stand = of_goes s t numbers K code (noting.standing_step s t d'.slot f2 d2) (loop_goes s numbers K code x d'.slot (opened Plain m2.0) m3.0 d2 m2.2) in
+        let inner = block_main (loop_around a) b' (loop_code d.node b ∙ c) blk Plain k z m3.0 m4.0 f2 inside m3.2 in
+        let shut = closed_step s t numbers K code Plain m2.0 m4.0 v f2 g d2 e (step_then s t numbers K code stand inner.step) m4.2 in
+        let rest1 = step_then s t numbers K code two shut in
+        let rest0 = step_then s t numbers K code one rest1 in
+        placed_main s t numbers K code a b ⊤ p (kernel.Loop (range_written s t open_a low high open_b d') (block_written s t b' blk inside)) w v f g d e
+        (step_then s t numbers K code hide rest0) (inner.same ∙ range_parts low high d' ∙ begun_parts d)
+        (λ q place aims rel run.
+        let in_aims = LoopAim d.node ∷ aims in
+        let run0 = last_run s t numbers K code place hide rest0 run in
+        let run1 = last_run s t numbers K code place one rest1 run0 in
+        let run2 = last_run s t numbers K code place two shut run1 in
+        let run3 = closed_run s t numbers K code place Plain m2.0 m4.0 v f2 g d2 e m4.2 run2 in
+        let run4 = last_run s t numbers K code place stand inner.step run3 in
+        let notes = noting.step_then s t hide.notes (noting.step_then s t one.notes (noting.step_then s t two.notes stand.notes)) in
+        (
+          (given_ok s t place low ty.S32 f three (at_run s t numbers K code place (first_run s t numbers K code place rest1 run0)), given_ok s t place high ty.S32 f1 d1 (at_run s t numbers K code place (first_run s t numbers K code place shut run1))),
+          inner.typed place in_aims (rel_step s place in_aims (loop_around a) b' f f2 d' inside notes.under (rel_loop s place aims a b f d rel)) run4,
+        ))
 
     every_main : (a : types_around.Around) (b : draft_around.Around) → b.code ≡ code → (p : Pos) (x : Option Ident) (target : Target) (blk : Block) → NoCodeInBlock blk → TargetTimed target → TimedBlock blk → (w v : Walk) (f : Found) (d : Draft) →
         every_walked x target w >>= (λ u. block_walked blk Plain u) ≡ Ok v →
         Main s t numbers K code a b w f d v (every_ended (block_found s (loop_around a) blk (every_begun s x target f))) (placed d.node p (kernel.Loop turns.Free (every_written s t b d.node p x target blk (draft.begun d))) (every_passed s t b d.node p x target blk (draft.begun d)))
-    every_main a b c p x target (Block' _ list) k y z w v f d h = ?
+    every_main a b c p x target (Block' _ list) k y z w v f d h =
+        let d' = draft.begun d in
+        let n = declared_in list in
+        let b' = in_loop d.node b in
+        let body : Draft → Draft = λ inside. nodes_written s t b' list (target_awaited s t p (if_variable s x inside) target (if_used x inside)) in
+        let m = then_ok (every_walked x target w) (λ u. block_walked (Block' _ list) Plain u) v h in
+        let i = then_ok (nodes_walked list (opened Plain m.0)) closed v m.2 in
+        let begin = draft.opened n d' in
+        let f1 = acts f in
+        let f3 = target_found s target (every_takes s x target f1) in
+        let d3 = target_awaited s t p (if_variable s x begin) target (if_used x begin) in
+        let f4 : Found = record f3 { beyond_every = false } in
+        let g = nodes_found s (loop_around a) list f4 in
+        let part = every_part p x target y w m.0 f1 begin m.1 in
+        let act = found_step s t numbers K code w f f1 begin (acts_step s t f begin) in
+        let cleared = cleared_step m.0 f3 d3 in
+        let nodes = nodes_main (loop_around a) b' (loop_code d.node b ∙ c) list k z (opened Plain m.0) i.0 f4 d3 i.1 in
+        let shut = closed_step s t numbers K code Plain m.0 i.0 v f4 g d3 (body begin) nodes.step i.2 in
+        let rest1 = step_then s t numbers K code cleared shut in
+        let rest0 = step_then s t numbers K code part.step rest1 in
+        let inside = step_then s t numbers K code act rest0 in
+        let whole = block_step s t numbers K code n body w v f g d' inside in
+        let flag = found_step s t numbers K code v g (every_ended g) (around_block n body d') (every_notes s t g (around_block n body d')) in
+        placed_main s t numbers K code a b ⊤ p (kernel.Loop turns.Free (block_of n body d')) w v f (every_ended g) d (around_block n body d')
+        (step_then s t numbers K code whole flag) (around_parts n body d' ∙ begun_parts d)
+        (λ q place aims rel run.
+        let in_aims = LoopAim d.node ∷ aims in
+        let run2 = block_run s t numbers K code place n body w v f g d' inside (first_run s t numbers K code place flag run) in
+        let run3 = last_run s t numbers K code place act rest0 run2 in
+        let run5 = last_run s t numbers K code place cleared shut (last_run s t numbers K code place part.step rest1 run3) in
+        let run6 = closed_run s t numbers K code place Plain m.0 i.0 v f4 g d3 (body begin) i.2 run5 in
+        let notes = noting.step_then s t (noting.opened_step s t n f d') (noting.step_then s t act.notes (noting.step_then s t part.step.notes cleared.notes)) in
+        let rel' = rel_step s place in_aims (loop_around a) b' f f4 d' d3 notes.under (rel_loop s place aims a b f d rel) in
+        (tt, holds_block K code in_aims n body d' (nodes.holds tt place in_aims rel' run6 (part.holds tt place in_aims (first_run s t numbers K code place rest1 run3) (holds_opened K code in_aims n d')))))
 
     pub block_main : (a : types_around.Around) (b : draft_around.Around) → b.code ≡ code → (blk : Block) (border : Border) → NoCodeInBlock blk → TimedBlock blk → (w v : Walk) (f : Found) (d : Draft) → block_walked blk border w ≡ Ok v →
         Inner s t numbers K code a b w f d v (block_found s a blk f) (block_passed s t b blk d) (λ aims. BlockTyped K code aims (block_written s t b blk d))
@@ -376,7 +513,17 @@ module _ (s : Scopes) (t : Types) (numbers : List ℕ) (K : Kernel) (code : Opti
         Main s t numbers K code a b w f d v (items_found s a u r f) (items_written s t b p u r d)
     items_main a b c p u end_of-Item k z w v f d h =
         moved_main a b w v f f d d (Ok w) refl h (record { step = calm_step s t numbers K code w f f d d (none_step s t f d) (calm_same d); holds = λ q place aims rel run m. m })
-    items_main a b c p u (more_of-Item x y rest) k z w v f d h = ?
+    items_main a b c p u (more_of-Item x y rest) k z w v f d h =
+        let name = fresh class.Var 0 w in
+        let m3 = then_ok (declared class.Var u (value_broken y) x w >>= value_walked y >>= shown x name) (λ i. items_walked rest u i) v h in
+        let m2 = then_ok (declared class.Var u (value_broken y) x w >>= value_walked y) (shown x name) m3.0 m3.1 in
+        let m1 = then_ok (declared class.Var u (value_broken y) x w) (value_walked y) m2.0 m2.1 in
+        let first = draft.declared (kind.Var u) x d in
+        let f' = name_typed u x f in
+        let into = own d.parts.slot u in
+        let value = value_main a b c p into u y k.0 z.0 m1.0 m2.0 f' first m1.2 in
+        main_then s t numbers K code a b (item_main a b u x y w m1.0 m2.0 m3.0 f (value_found s a u y f') d (value_written s t b p into y first) m1.1 m2.2 value)
+        (items_main a b c p u rest k.1 z.1 m3.0 v (value_found s a u y f') (value_written s t b p into y first) m3.2)
 
     arms_main : {n : _} (a : types_around.Around) (b : draft_around.Around) → b.code ≡ code → (r : Row_of-Arm n) → NoCodeInArms r → TimedArms r → (w v : Walk) (f : Found) (d : Draft) → arms_walked r w ≡ Ok v →
         Inner s t numbers K code a b w f d v (arms_found s a r f) (arms_passed s t b r d) (λ aims. AllOf (ArmTyped K code aims) (arms_written s t b r d))
