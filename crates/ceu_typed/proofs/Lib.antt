@@ -18,3 +18,4 @@ pub mod Wrapping
 pub mod Around
 pub mod Blocks
 pub mod Statements
+pub mod Parameters

@@ -212,13 +212,25 @@ module _ (s : Scopes) (numbers : List ℕ) (K : Kernel) where
       pub takes : e.numbers ≡ d.numbers ++ n ∷ []
       pub tables : Tables d e
 
-    shows_more : (m n : ℕ) → m ≤ n → (scopes : List Scope) → AllScopes (Means s numbers K code m) scopes → AllScopes (Means s numbers K code n) scopes
+    pub shows_more : (m n : ℕ) → m ≤ n → (scopes : List Scope) → AllScopes (Means s numbers K code m) scopes → AllScopes (Means s numbers K code n) scopes
     shows_more m n le scopes h = scopes_map (Means s numbers K code m) (Means s numbers K code n) (means_more s numbers K code m n le) scopes h
+
+    more_now : (n : ℕ) (x : Decl) (w : Walk) (d e : Draft) → Takes n d e → Now w d → Now (record w { decls = w.decls ++ x ∷ [] }) e
+    more_now n x w d e t m =
+        let one : length e.numbers ≡ length d.numbers + 1 = ap length t.takes ∙ length_more d.numbers n in
+        let count : length (w.decls ++ x ∷ []) ≡ length w.decls + 1 = length_more w.decls x in
+        record {
+          uses = m.uses ∙ sym t.uses;
+          decls = let before = m.decls in omega (arith, one, count, before);
+          shows = shows_more (length d.numbers) (length e.numbers) (omega (arith, one)) w.scopes m.shows;
+        }
+
+    pub declared_now : (c : Class) (t : Ty) (r : Option Rule) (x : Ident) (n : ℕ) (w v : Walk) (d e : Draft) → Takes n d e → declared c t r x w ≡ Ok v → Now w d → Now v e
+    declared_now c t r x n w v d e h is now = subst (λ v. Now v e) (sym (declared_ok c t r x w v is)) (more_now n _ w d e h now)
 
     more_goes : (n : ℕ) (x : Decl) (w : Walk) (d e : Draft) → is_parameter x.class ≡ false → Takes n d e → Goes w d (record w { decls = w.decls ++ x ∷ [] }) e
     more_goes n x w d e plain t =
         let k = t.tables in
-        let one : length e.numbers ≡ length d.numbers + 1 = ap length t.takes ∙ length_more d.numbers n in
         let count : length (w.decls ++ x ∷ []) ≡ length w.decls + 1 = length_more w.decls x in
         record {
           ends = λ h. record {
@@ -231,11 +243,7 @@ module _ (s : Scopes) (numbers : List ℕ) (K : Kernel) where
             events = prefix_then d.events e.events K.events k.events h.events;
             codes = prefix_then d.codes e.codes K.codes k.codes h.codes;
           };
-          now = λ h m. record {
-            uses = m.uses ∙ sym t.uses;
-            decls = let before = m.decls in omega (arith, one, count, before);
-            shows = shows_more (length d.numbers) (length e.numbers) (omega (arith, one)) w.scopes m.shows;
-          };
+          now = λ h m. more_now n x w d e t m;
           rest = refl;
           up = omega (arith, count);
         }
@@ -257,6 +265,7 @@ module _ (s : Scopes) (numbers : List ℕ) (K : Kernel) where
       pub now : Means s numbers K code (length d.numbers) k → Now w d → Now v d
       pub rest : rest_of v.scopes ≡ rest_of w.scopes
       pub decls : v.decls ≡ w.decls
+      pub uses : v.uses ≡ w.uses
 
     shown_at : (x : Ident) (k : Known) (w : Walk) (d : Draft) → Shown k w (record w { scopes = with_name x.name k w.scopes }) d
     shown_at x k w d =
@@ -265,6 +274,7 @@ module _ (s : Scopes) (numbers : List ℕ) (K : Kernel) where
           now = λ means n. record { uses = n.uses; decls = n.decls; shows = with_name_all (Means s numbers K code (length d.numbers)) x.name k w.scopes means n.shows };
           rest = with_name_rest x.name k w.scopes;
           decls = refl;
+          uses = refl;
         }
 
     pub shown_by : (x : Ident) (k : Known) (w v : Walk) (d : Draft) → shown x k w ≡ Ok v → Shown k w v d
