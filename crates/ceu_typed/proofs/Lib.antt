@@ -19,3 +19,5 @@ pub mod Around
 pub mod Blocks
 pub mod Statements
 pub mod Parameters
+pub mod Heads
+pub mod Codes
