@@ -21,3 +21,4 @@ pub mod Statements
 pub mod Parameters
 pub mod Heads
 pub mod Codes
+pub mod Bodies
