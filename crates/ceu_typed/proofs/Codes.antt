@@ -1,18 +1,17 @@
 -- Code of a program is typed in the kernel.
-use Rattle.std.proofs.Common.{◌≡◌, refl, sym, ap, ◌∙◌, subst, ℕ, ◌+◌, ◌<◌, ◌≤◌, length, arith, List, [], ◌∷◌, ◌++◌, Option, Some, None, Result, Ok, Bool, true, false}
-use Rattle.std.specs.Prelude.{IsTrue, nat_le}
+use Rattle.std.proofs.Common.{◌≡◌, refl, sym, ap, ◌∙◌, subst, ℕ, ◌+◌, ◌≤◌, length, arith, List, [], ◌∷◌, ◌++◌, Option, Some, None, Ok, true}
+use Rattle.std.specs.Prelude.{nat_le}
 use Rattle.ceu_base.specs.declared.kinds.Ty.{Ty}
 use Rattle.ceu_base.specs.declared.kinds.Ty.TheVariants as ty
 use Rattle.ceu_base.specs.declared.kinds.Pos.{Pos}
 use Rattle.ceu_tree.specs.declared.source.Class.TheVariants as class
 use Rattle.ceu_tree.specs.declared.source.Ident.{Ident}
 use Rattle.ceu_tree.specs.declared.source.Param.{Param}
-use Rattle.ceu_tree.specs.declared.source.Block.{Block, Block', Row_of-Node}
+use Rattle.ceu_tree.specs.declared.source.Block.{Block, Block'}
 use Rattle.ceu_tree.specs.declared.source.Stmt as stmt
 use Rattle.ceu_tree.specs.declared.kernel.Kernel.{Kernel}
 use Rattle.ceu_tree.specs.declared.kernel.KCode.{KCode}
-use Rattle.ceu_tree.specs.declared.kernel.KDecl.{KDecl}
-use Rattle.ceu_tree.specs.declared.kernel.KBlock.{KBlock, out-KBlock}
+use Rattle.ceu_tree.specs.declared.kernel.KBlock.{KBlock}
 use Rattle.ceu_tree.specs.Leaf.{code_at}
 use Rattle.ceu_tree.specs.Proper.{Aim, BodyAim, InTrail}
 use Rattle.ceu_scopes.specs.declared.known.Scopes.{Scopes}
@@ -29,7 +28,7 @@ use Rattle.ceu_types.specs.Around.{program_around}
 use Rattle.ceu_types.specs.Statements.{params_found, stmt_found, block_found, nodes_found}
 use Rattle.ceu_expand.specs.declared.draft.Draft.{Draft}
 use Rattle.ceu_expand.specs.declared.draft.Parts.{Parts}
-use Rattle.ceu_expand.specs.Draft.{of_program, opened, around_block, standing, entered, left, with_code}
+use Rattle.ceu_expand.specs.Draft.{of_program, opened, around_block, left, with_code}
 use Rattle.ceu_expand.specs.Lists.{each}
 use Rattle.ceu_expand.specs.Parts.{param_declared}
 use Rattle.ceu_expand.specs.Expansion.{declared_in, code_begun, code_around, code_ended, stmt_written, nodes_written, block_written, block_passed}
@@ -37,23 +36,21 @@ use Rattle.ceu_proper.specs.Shaped.{AllOf}
 use Rattle.ceu_proper.proofs.Codes.{NoCodeInBlock}
 use Rattle.ceu_proper.proofs.Inside.{append_assoc}
 use Rattle.ceu_proper.proofs.Wrote.{block_in}
-use Rattle.ceu_proper.proofs.Whole.{bare, params_are}
-use Rattle.ceu_visible.proofs.Stepping.{AllScopes, length_more}
+use Rattle.ceu_visible.proofs.Stepping.{AllScopes}
 use Rattle.ceu_exits.proofs.Fine.{Fine}
 use Rattle.ceu_exits.proofs.Beside.{Alike, Level}
 use Rattle.ceu_exits.proofs.Held.{around_parts}
 use Rattle.ceu_typed.specs.Times.{TimedBlock}
 use Rattle.ceu_typed.specs.Typed.{ParamTyped, BlockTyped, BodyTyped, CodeTyped, CodesTyped}
-use Rattle.ceu_typed.proofs.Noting as noting
 use Rattle.ceu_typed.proofs.Noting.{Prefix}
 use Rattle.ceu_typed.proofs.Meaning.{Means}
-use Rattle.ceu_typed.proofs.Naming.{then_ok, prefix_then, prefix_same, Tables, Calm, Ends, Now, calm_goes, shows_more, shown_by, closed_ok}
+use Rattle.ceu_typed.proofs.Naming.{then_ok, prefix_same, Calm, Ends, Now, calm_goes, shows_more, shown_by, closed_ok}
 use Rattle.ceu_typed.proofs.Running.{Step, Run, block_step, block_run}
 use Rattle.ceu_typed.proofs.Holding.{Holds, holds_as, holds_opened, holds_block}
 use Rattle.ceu_typed.proofs.Parameters.{AllTyped, params_fine, params_notes}
 use Rattle.ceu_typed.proofs.Wrapping.{closed_back, closed_step, closed_run}
 use Rattle.ceu_typed.proofs.Statements.{nodes_main}
-use Rattle.ceu_typed.proofs.Heads.{block_node, code_next, codes_append, body_rel, Stage, Head, Opened, head_opened, Kept, head_kept, Inside, rest_scopes, more_decls, head_ends, head_now, head_stands, head_decls}
+use Rattle.ceu_typed.proofs.Heads.{block_node, code_next, codes_append, body_rel, Stage, Head, head_opened, head_kept, rest_scopes, more_decls, head_ends, head_now, head_stands, head_decls}
 
 module _ (s : Scopes) (t : Types) (numbers : List ℕ) (K : Kernel) where
   abbrev pub program_aims : List Aim

@@ -1,5 +1,5 @@
 -- The walk through a program's types beside the draft of its kernel: both go past the same expressions, so that each has its type.
-use Rattle.std.proofs.Common.{◌≡◌, refl, sym, ap, ◌∙◌, subst, ℕ, ◌+◌, length, arith, List, [], ◌∷◌, ◌++◌, Option, Some, None, Bool, true, false}
+use Rattle.std.proofs.Common.{◌≡◌, refl, sym, ap, ◌∙◌, ℕ, ◌+◌, length, List, [], ◌∷◌, ◌++◌, Bool, true, false}
 use Rattle.std.specs.Prelude.{if◌then◌else◌, slice_get, unwrap_or}
 use Rattle.ceu_base.specs.declared.kinds.Ty.{Ty}
 use Rattle.ceu_base.specs.declared.kinds.Ty.TheVariants as ty
@@ -11,7 +11,7 @@ use Rattle.ceu_tree.specs.declared.kernel.KStmt.{KStmt}
 use Rattle.ceu_scopes.specs.declared.known.Scopes.{Scopes}
 use Rattle.ceu_types.specs.declared.typing.Types.{Types}
 use Rattle.ceu_types.specs.declared.found.Found.{Found}
-use Rattle.ceu_types.specs.Notes.{asks, asks_own, typed, past, passed, not_in_every, not_in_async, not_in_finalizer}
+use Rattle.ceu_types.specs.Notes.{asks, asks_own, typed, passed, not_in_every, not_in_async, not_in_finalizer}
 use Rattle.ceu_types.specs.Statements.{waits, acts}
 use Rattle.ceu_expand.specs.declared.draft.Draft.{Draft}
 use Rattle.ceu_expand.specs.Draft as draft
@@ -19,7 +19,7 @@ use Rattle.ceu_expand.specs.Draft.{outside, closed, opened, around_block}
 use Rattle.ceu_expand.specs.Expressions as expressions
 use Rattle.ceu_expand.specs.Expressions.{type_at}
 use Rattle.ceu_expand.specs.Uses.{used}
-use Rattle.ceu_proper.proofs.Inside.{append_assoc, append_none}
+use Rattle.ceu_proper.proofs.Inside.{append_assoc}
 use Rattle.ceu_visible.proofs.Stepping.{get_next, length_more}
 use Rattle.ceu_exits.proofs.Beside as exits
 

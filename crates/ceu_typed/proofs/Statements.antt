@@ -1,6 +1,6 @@
 -- Each statement of a text that breaks no rule on names and types is typed in the kernel.
-use Rattle.std.proofs.Common.{◌≡◌, refl, sym, ap, ◌∙◌, subst, ℕ, ◌+◌, ◌<◌, ◌≤◌, length, arith, List, [], ◌∷◌, ◌++◌, Option, Some, None, Result, Ok, Bool, true, false}
-use Rattle.std.specs.Prelude.{⊤, IsTrue, not}
+use Rattle.std.proofs.Common.{◌≡◌, refl, sym, ap, ◌∙◌, subst, ℕ, ◌+◌, length, arith, List, [], ◌∷◌, Option, Some, None, Result, Ok, true, false}
+use Rattle.std.specs.Prelude.{⊤, not}
 use Rattle.ceu_base.specs.declared.kinds.Ty.{Ty}
 use Rattle.ceu_base.specs.declared.kinds.Ty.TheVariants as ty
 use Rattle.ceu_base.specs.declared.kinds.Pos.{Pos}
@@ -23,7 +23,7 @@ use Rattle.ceu_tree.specs.declared.kernel.KLoop.TheVariants as turns
 use Rattle.ceu_tree.specs.declared.kernel.ParKind.TheVariants as par
 use Rattle.ceu_tree.specs.declared.kernel.KStmt as kernel
 use Rattle.ceu_tree.specs.Typing.{same_ty}
-use Rattle.ceu_tree.specs.Proper.{Aim, LoopAim, Where, InTrail, InsideAsync, InFinalizer}
+use Rattle.ceu_tree.specs.Proper.{LoopAim, Where, InsideAsync, InFinalizer}
 use Rattle.ceu_scopes.specs.declared.known.Role.TheVariants as role
 use Rattle.ceu_scopes.specs.declared.known.Scopes.{Scopes}
 use Rattle.ceu_scopes.specs.declared.scope.Border.{Border}
@@ -49,34 +49,34 @@ use Rattle.ceu_expand.specs.Draft.{in_loop, in_do, hidden, placed, block_of, aro
 use Rattle.ceu_expand.specs.Lists.{each}
 use Rattle.ceu_expand.specs.Uses as uses
 use Rattle.ceu_expand.specs.Uses.{variable, if_variable, if_used}
-use Rattle.ceu_expand.specs.Expressions.{exp_passed, exp_written}
-use Rattle.ceu_expand.specs.Parts.{simple, nothing_in, awaited, target_awaited, name_passed}
+use Rattle.ceu_expand.specs.Expressions.{exp_passed}
+use Rattle.ceu_expand.specs.Parts.{nothing_in, awaited, target_awaited, name_passed}
 use Rattle.ceu_expand.specs.Expansion.{row_blocks, par_hidden, par_slot, turns_written, turns_passed, range_hidden, range_written, range_passed, declared_in, stmt_written, source_written, value_written, do_written, ranged, every_written, every_passed, block_written, block_passed, last_written, last_passed, nodes_written, items_written, arms_written, arms_passed, blocks_written, blocks_passed}
 use Rattle.ceu_proper.specs.Shaped.{AllOf}
 use Rattle.ceu_proper.proofs.Codes.{NoCode, NoCodeInSource, NoCodeInValue, NoCodeInDo, NoCodeInBlock, NoCodeInLast, NoCodeInRange, NoCodeInItems, NoCodeInArms, NoCodeInBlocks, NoCodeInNodes}
-use Rattle.ceu_proper.proofs.Frames.{frame_used, frame_if_used, frame_labelled, frame_unlabelled, frame_exp, frame_each}
+use Rattle.ceu_proper.proofs.Frames.{frame_used, frame_labelled, frame_unlabelled, frame_exp, frame_each}
 use Rattle.ceu_visible.proofs.Stepping.{length_more}
 use Rattle.ceu_exits.specs.Exits.{aim_of}
 use Rattle.ceu_exits.proofs.Fine.{Fine, fine_as, fine_passed}
 use Rattle.ceu_exits.proofs.Beside as exits
 use Rattle.ceu_exits.proofs.Beside.{same_type}
-use Rattle.ceu_exits.proofs.Held.{around_parts, value_of, Rel, rel_step, rel_loop, rel_do, rel_async, rel_finalizer}
+use Rattle.ceu_exits.proofs.Held.{around_parts, value_of, rel_step, rel_loop, rel_do, rel_async, rel_finalizer}
 use Rattle.ceu_typed.specs.Times.{Timed, TimedSource, TimedValue, TimedDo, TimedBlock, TimedLast, TimedRange, TimedItems, TimedArms, TimedBlocks, TimedNodes, AwaitTimed, TargetTimed}
 use Rattle.ceu_typed.specs.Typed.{LocTyped, MaybeTyped, MaybeTakes, StmtTyped, BlockTyped, ArmTyped}
 use Rattle.ceu_typed.proofs.Noting as noting
 use Rattle.ceu_typed.proofs.Noting.{none_step, acts_step, waits_step, finalizer_step, hidden_step, declared_step, used_step}
-use Rattle.ceu_typed.proofs.Passing.{given_step, condition_step, taken_step, typed_name_step, names_step, every_step, target_step}
+use Rattle.ceu_typed.proofs.Passing.{given_step, condition_step, taken_step, typed_name_step, names_step}
 use Rattle.ceu_typed.proofs.Giving.{given_ok, condition_ok}
 use Rattle.ceu_typed.proofs.Meaning.{HasType}
-use Rattle.ceu_typed.proofs.Naming.{then_ok, ok_is, Ends, Now, Goes, goes_then, named_ok, used_goes, named_goes, alias_goes, declared_ok, declared_goes, shown_by, stands_there}
-use Rattle.ceu_typed.proofs.Walking.{calm_same, calm_hidden, calm_opened, still, exp_goes, target_goes, list_goes}
+use Rattle.ceu_typed.proofs.Naming.{then_ok, ok_is, Goes, named_ok, named_goes, alias_goes, declared_ok, declared_goes, shown_by, stands_there}
+use Rattle.ceu_typed.proofs.Walking.{calm_same, calm_hidden, calm_opened, exp_goes, list_goes}
 use Rattle.ceu_typed.proofs.Using.{written_here}
 use Rattle.ceu_typed.proofs.Running.{Step, Run, of_goes, step_then, found_step, calm_step, first_run, last_run, at_run, begin_step, block_step, block_run}
-use Rattle.ceu_typed.proofs.Holding.{Holds, holds_as, holds_declared, holds_opened, holds_block, if_typed, par_typed}
-use Rattle.ceu_typed.proofs.Leaves.{PartIf, Part, same_part, simple_part, zeroed_part, assigned_part, emitted_part, killed_part, spawned_part, parts_of, begun_parts, hidden_parts}
+use Rattle.ceu_typed.proofs.Holding.{holds_as, holds_declared, holds_opened, holds_block, if_typed, par_typed}
+use Rattle.ceu_typed.proofs.Leaves.{Part, same_part, simple_part, zeroed_part, assigned_part, emitted_part, killed_part, spawned_part, parts_of, begun_parts, hidden_parts}
 use Rattle.ceu_typed.proofs.Awaiting.{target_part, await_part, empty_block, empty_step}
 use Rattle.ceu_typed.proofs.Declaring.{declared_takes, means_there, event_goes, input_goes, output_goes, each_goes, loop_goes, alias_part, pool_part}
-use Rattle.ceu_typed.proofs.Wrapping.{finalizer_names, finalizer_labels, finalizer_level, fine_closed, fine_opened, closed_same, fine_left, left_names, left_labels, entered_async, fine_entered, finalizer_begun_types, finalizer_ended_types, async_ended_types, wrap_step, wrap_run, closed_step, closed_run}
+use Rattle.ceu_typed.proofs.Wrapping.{finalizer_names, finalizer_labels, fine_closed, fine_opened, closed_same, fine_left, left_names, left_labels, entered_async, fine_entered, finalizer_begun_types, finalizer_ended_types, async_ended_types, wrap_step, wrap_run, closed_step, closed_run}
 use Rattle.ceu_typed.proofs.Around.{MainIf, Main, Inner, of_part, main_then, found_then, placed_main, if_main, jump_main, escape_main, node_main}
 use Rattle.ceu_typed.proofs.Blocks.{loop_code, do_code, each_parts, event_parts, input_parts, output_parts, turns_typed, turns_parts, range_parts, taken_names, taken_same, passed_names, taken_takes, name_has_type, each_notes, event_notes, input_notes, output_notes, every_notes, turns_step, three_hidden, do_step, do_run}
 
@@ -340,9 +340,10 @@ module _ (s : Scopes) (t : Types) (numbers : List ℕ) (K : Kernel) (code : Opti
         let run' = last_run s t numbers K code place start rest run in
         let one = first_run s t numbers K code place inner.step run' in
         let rel' = rel_step s place aims a b f f'' d inside (step_then s t numbers K code (begin_step s t numbers K code w f d) (step_then s t numbers K code start waited)).notes.under rel in
-        par_typed K code aims d.node par.Or 0 (made ∷ block_written s t b blk inside ∷ [])
-        (holds_block K code aims 0 body d' (wait.holds tt place aims (block_run s t numbers K code place 0 body w m.0 f' f'' d' wait.step one) (holds_opened K code aims 0 d')),
-        (inner.typed place aims rel' (last_run s t numbers K code place waited inner.step run'), tt)))
+        par_typed K code aims d.node par.Or 0 (made ∷ block_written s t b blk inside ∷ []) (
+          holds_block K code aims 0 body d' (wait.holds tt place aims (block_run s t numbers K code place 0 body w m.0 f' f'' d' wait.step one) (holds_opened K code aims 0 d')),
+          (inner.typed place aims rel' (last_run s t numbers K code place waited inner.step run'), tt),
+        ))
     stmt_main a b c p (Par' kind _ bs) k z w v f d h =
         let f' = waits f in
         let d1 = draft.begun d in
@@ -428,8 +429,7 @@ module _ (s : Scopes) (t : Types) (numbers : List ℕ) (K : Kernel) (code : Opti
         let run2 = last_run s t numbers K code place two shut run1 in
         let run3 = closed_run s t numbers K code place Plain m2.0 m4.0 v f2 g d2 e m4.2 run2 in
         let run4 = last_run s t numbers K code place stand inner.step run3 in
-        let notes = noting.step_then s t hide.notes (noting.step_then s t one.notes (noting.step_then s t two.notes stand.notes)) in
-        (
+        let notes = noting.step_then s t hide.notes (noting.step_then s t one.notes (noting.step_then s t two.notes stand.notes)) in (
           (given_ok s t place low ty.S32 f three (at_run s t numbers K code place (first_run s t numbers K code place rest1 run0)), given_ok s t place high ty.S32 f1 d1 (at_run s t numbers K code place (first_run s t numbers K code place shut run1))),
           inner.typed place in_aims (rel_step s place in_aims (loop_around a) b' f f2 d' inside notes.under (rel_loop s place aims a b f d rel)) run4,
         ))

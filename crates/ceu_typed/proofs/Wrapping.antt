@@ -1,14 +1,13 @@
 -- What begins and ends around a block: finalizers, asyncs, labels, statements.
-use Rattle.std.proofs.Common.{◌≡◌, refl, sym, ap, ◌∙◌, subst, ℕ, ◌≤◌, length, arith, List, [], ◌∷◌, ◌++◌, Option, Some, None, Result, Ok, Bool, true, false}
-use Rattle.std.specs.Prelude.{IsTrue, not, if◌then◌else◌}
+use Rattle.std.proofs.Common.{◌≡◌, refl, sym, ap, ◌∙◌, subst, ℕ, length, arith, List, [], ◌∷◌, ◌++◌, Option, Ok, Bool, true, false}
+use Rattle.std.specs.Prelude.{IsTrue, not}
 use Rattle.ceu_base.specs.declared.kinds.Ty.{Ty}
 use Rattle.ceu_base.specs.declared.kinds.Pos.{Pos}
-use Rattle.ceu_base.specs.declared.kinds.Rule.{Rule}
 use Rattle.ceu_base.specs.declared.kinds.Rule.TheVariants.{T6}
 use Rattle.ceu_tree.specs.declared.source.Label.{Label}
 use Rattle.ceu_tree.specs.declared.source.Label.TheVariants as label
 use Rattle.ceu_tree.specs.declared.kernel.Kernel.{Kernel}
-use Rattle.ceu_tree.specs.Proper.{Aim, Where, InTrail, InsideAsync, InFinalizer, is_trail, outside_finalizers}
+use Rattle.ceu_tree.specs.Proper.{Where, InTrail, InsideAsync, InFinalizer, is_trail}
 use Rattle.ceu_scopes.specs.declared.known.Scopes.{Scopes}
 use Rattle.ceu_scopes.specs.declared.scope.Border.{Border}
 use Rattle.ceu_scopes.specs.declared.walk.Walk.{Walk}
@@ -19,11 +18,11 @@ use Rattle.ceu_types.specs.declared.found.Found.{Found}
 use Rattle.ceu_types.specs.declared.found.LabelTarget.{LabelTarget}
 use Rattle.ceu_types.specs.Notes.{asks_own, not_in_every, not_in_async, not_in_finalizer, begun, ended_after, ended}
 use Rattle.ceu_types.specs.Around as types
-use Rattle.ceu_types.specs.Statements.{waits, acts, every_ended, finalizer_begun, finalizer_ended, async_begun, async_ended}
+use Rattle.ceu_types.specs.Statements.{waits, acts, every_ended, finalizer_begun, finalizer_ended, async_ended}
 use Rattle.ceu_expand.specs.declared.draft.Draft.{Draft}
 use Rattle.ceu_expand.specs.declared.draft.LabelNode.{LabelNode}
 use Rattle.ceu_expand.specs.Draft as draft
-use Rattle.ceu_exits.proofs.Fine.{Fine, Allows, fine_as, fine_own, fine_every, fine_acts, fine_waits, fine_ended, fine_begun}
+use Rattle.ceu_exits.proofs.Fine.{Fine, Allows, fine_as, fine_own, fine_every, fine_acts, fine_waits}
 use Rattle.ceu_exits.proofs.Beside.{Alike, Level}
 use Rattle.ceu_exits.proofs.Beside as exits
 use Rattle.ceu_exits.proofs.Beside.{own_names, own_labels}
@@ -31,7 +30,7 @@ use Rattle.ceu_exits.proofs.Held.{dropped_target, dropped_node}
 use Rattle.ceu_typed.proofs.Noting as noting
 use Rattle.ceu_typed.proofs.Noting.{Prefix, prefix_as, own_types}
 use Rattle.ceu_typed.proofs.Meaning.{Means}
-use Rattle.ceu_typed.proofs.Naming.{Ends, Now, Goes, closed_ok, opened_now, opened_ends, opened_rest}
+use Rattle.ceu_typed.proofs.Naming.{Ends, closed_ok, opened_now, opened_ends, opened_rest}
 use Rattle.ceu_typed.proofs.Running.{Step, Run}
 use Rattle.ceu_visible.proofs.Stepping.{rest_all}
 
