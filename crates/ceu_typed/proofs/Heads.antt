@@ -10,6 +10,7 @@ use Rattle.ceu_tree.specs.declared.source.Ident.{Ident}
 use Rattle.ceu_tree.specs.declared.source.Param.{Param}
 use Rattle.ceu_tree.specs.declared.kernel.Kernel.{Kernel}
 use Rattle.ceu_tree.specs.declared.kernel.KCode.{KCode}
+use Rattle.ceu_tree.specs.declared.kernel.KDecl.{KDecl}
 use Rattle.ceu_tree.specs.declared.kernel.KBlock.{out-KBlock, roll-KBlock}
 use Rattle.ceu_tree.specs.Leaf.{code_at}
 use Rattle.ceu_tree.specs.Proper.{BodyAim, InTrail}
@@ -31,13 +32,14 @@ use Rattle.ceu_expand.specs.Draft.{opened, outside, written, closed, around_bloc
 use Rattle.ceu_expand.specs.Draft as draft
 use Rattle.ceu_expand.specs.Lists.{each}
 use Rattle.ceu_expand.specs.Parts.{param_declared}
+use Rattle.ceu_proper.specs.Shaped.{AllOf}
 use Rattle.ceu_proper.proofs.Inside.{append_assoc}
 use Rattle.ceu_proper.proofs.Whole.{bare, params_are}
 use Rattle.ceu_visible.proofs.Stepping.{AllScopes, scopes_map, length_more}
 use Rattle.ceu_exits.specs.Exits.{taken_at}
 use Rattle.ceu_exits.proofs.Beside.{Level}
 use Rattle.ceu_exits.proofs.Held.{Rel}
-use Rattle.ceu_typed.specs.Typed.{CodeTyped, CodesTyped}
+use Rattle.ceu_typed.specs.Typed.{ParamTyped, CodeTyped, CodesTyped}
 use Rattle.ceu_typed.proofs.Noting.{Prefix, prefix_less, prefix_as}
 use Rattle.ceu_typed.proofs.Meaning.{Means, means_inside, CodeIs, Matches}
 use Rattle.ceu_typed.proofs.Naming.{then_ok, prefix_then, same_tables, Calm, Ends, Now, declared_ok, declared_now, stands_there, opened_now}
@@ -60,11 +62,19 @@ pub code_next : (xs : List KCode) (x : KCode) (ys : List KCode) → code_at (len
 code_next [] x ys = refl
 code_next (y ∷ xs) x ys = code_next xs x ys
 
-pub codes_append : (K : Kernel) (k : ℕ) (cs : List KCode) (c : KCode) → CodesTyped K k cs → CodeTyped K (k + length cs) c → CodesTyped K k (cs ++ c ∷ [])
+codes_append : (K : Kernel) (k : ℕ) (cs : List KCode) (c : KCode) → CodesTyped K k cs → CodeTyped K (k + length cs) c → CodesTyped K k (cs ++ c ∷ [])
 codes_append K k [] c h one = let e : k + 0 ≡ k = omega arith in (subst (λ n. CodeTyped K n c) e one, tt)
 codes_append K k (x ∷ cs) c h one =
     let e : k + length (x ∷ cs) ≡ (k + 1) + length cs = omega arith in
     (h.0, codes_append K (k + 1) cs c h.1 (subst (λ n. CodeTyped K n c) e one))
+
+pub codes_ended : (K : Kernel) (old new all : List KCode) (c : KCode) → new ≡ old → all ≡ new ++ c ∷ [] → CodesTyped K 0 old → CodeTyped K (length old) c → CodesTyped K 0 all
+codes_ended K old new all c same is h one =
+    let e : 0 + length new ≡ length old = (let k : length new ≡ length old = ap length same in omega (arith, k)) in
+    subst (CodesTyped K 0) (sym is) (codes_append K 0 new c (subst (CodesTyped K 0) (sym same) h) (subst (λ n. CodeTyped K n c) (sym e) one))
+
+pub params_typed : (ks ls : List KDecl) → ls ≡ ks → AllOf ParamTyped ks → AllOf ParamTyped ls
+params_typed ks ls same h = subst (AllOf ParamTyped) (sym same) h
 
 module _ (s : Scopes) (t : Types) where
   -- at a body's beginning

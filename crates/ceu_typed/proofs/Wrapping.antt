@@ -234,6 +234,9 @@ module _ (s : Scopes) (t : Types) where
     pub closed_back : (v : Walk) (e : Draft) → Ends s numbers K (record v { scopes = rest_of v.scopes }) e → Ends s numbers K v e
     closed_back v e k = record { uses = k.uses; decls = k.decls; plain = k.plain; given = k.given; inputs = k.inputs; outputs = k.outputs; events = k.events; codes = k.codes }
 
+    pub closed_ends : (v u : Walk) (e : Draft) → walk.closed v ≡ Ok u → Ends s numbers K u e → Ends s numbers K v e
+    closed_ends v u e is h = closed_back v e (subst (λ u. Ends s numbers K u e) (closed_ok s numbers K code v u is) h)
+
     pub closed_at : (b : Border) (w v : Walk) (f g : Found) (d e : Draft) → Step s t numbers K code (walk.opened b w) f d v g e → Step s t numbers K code w f d (record v { scopes = rest_of v.scopes }) g e
     closed_at b w v f g d e h =
         let out = opened_rest s numbers K code b w in
@@ -260,5 +263,5 @@ module _ (s : Scopes) (t : Types) where
           now = opened_now s numbers K code b w d run.now;
           fine = run.fine;
           more = run.more;
-          ends = closed_back v e (subst (λ u. Ends s numbers K u e) (closed_ok s numbers K code v u is) run.ends);
+          ends = closed_ends v u e is run.ends;
         }
