@@ -1,10 +1,9 @@
 -- How often a slot stands in lists of names.
-use Rattle.std.proofs.Common.{◌≡◌, ◌≢◌, refl, sym, ap, ◌∙◌, ℕ, suc, zero, ◌+◌, arith, List, [], ◌∷◌, ◌++◌, Option, Some, None, Bool, true, false}
+use Rattle.std.proofs.Common.{◌≡◌, ◌≢◌, refl, ap, ◌∙◌, ℕ, suc, zero, ◌+◌, arith, List, [], ◌∷◌, ◌++◌, Bool, true, false}
 use Rattle.std.specs.Prelude.{◌==◌, ◌||◌, if◌then◌else◌}
 use Rattle.std.proofs.lemmas.Bool.Decides.{Decides-eqb}
 use Rattle.ceu_tree.specs.declared.kernel.Loc.{Loc}
-use Rattle.ceu_tree.specs.declared.kernel.KExp.{KExp}
-use Rattle.ceu_tree.specs.Mentions.{named_by, loc_names, own_names, maybe_loc, maybe_own, exp_names, maybe_exp, exps_names, count_of}
+use Rattle.ceu_tree.specs.Mentions.{named_by, loc_names, own_names, count_of}
 
 pub eq_true : (n : ℕ) → (n == n) ≡ true
 eq_true n = (Decides-eqb n n).1 refl

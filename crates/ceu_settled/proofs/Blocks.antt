@@ -1,5 +1,5 @@
 -- Blocks: what they declare is set in them, and from outside they name no slot but those that are shown.
-use Rattle.std.proofs.Common.{◌≡◌, ◌≢◌, refl, sym, ap, ◌∙◌, subst, ℕ, ◌≤◌, ◌+◌, length, arith, List, [], ◌∷◌, ◌++◌, Option, Some, None, Result, Ok, Err, Bool, true, false}
+use Rattle.std.proofs.Common.{◌≡◌, refl, sym, ap, ◌∙◌, subst, ℕ, ◌≤◌, ◌+◌, arith, List, [], ◌∷◌, ◌++◌, Option, Some, None, Result, Ok, Err, Bool, true}
 use Rattle.std.specs.Prelude.{⊤}
 use Rattle.ceu_base.specs.declared.kinds.Pos.{Pos}
 use Rattle.ceu_tree.specs.declared.source.Label.{Label}
@@ -17,7 +17,7 @@ use Rattle.ceu_tree.specs.declared.kernel.KArm.{KArm'}
 use Rattle.ceu_tree.specs.declared.kernel.KBlock.{KBlock, roll-KBlock}
 use Rattle.ceu_tree.specs.declared.kernel.KStmt as kernel
 use Rattle.ceu_tree.specs.declared.kernel.KStmt.{KStmt}
-use Rattle.ceu_tree.specs.Mentions.{maybe_loc, exp_names, stmt_names, block_names, arm_names, count_of, is_loc, await_target, body_target, sets}
+use Rattle.ceu_tree.specs.Mentions.{exp_names, stmt_names, block_names, arm_names, count_of, is_loc, await_target, body_target, sets}
 use Rattle.ceu_scopes.specs.declared.known.Scopes.{Scopes}
 use Rattle.ceu_scopes.specs.declared.scope.Border.{Border}
 use Rattle.ceu_scopes.specs.declared.walk.Walk.{Walk}
@@ -31,17 +31,15 @@ use Rattle.ceu_expand.specs.Draft as draft
 use Rattle.ceu_expand.specs.Draft.{begun, placed, outside, written, block_of, around_block}
 use Rattle.ceu_expand.specs.Expressions.{exp_passed, exp_written}
 use Rattle.ceu_expand.specs.Parts.{simple, nothing_in, await_written, target_passed, target_awaited, broken_if, awaited_and_asked, awaited_until, awaited}
-use Rattle.ceu_proper.specs.Shaped.{AllOf}
-use Rattle.ceu_proper.proofs.Steps.{Always, always_ok, always_then}
+use Rattle.ceu_proper.proofs.Steps.{always_ok, always_then}
 use Rattle.ceu_proper.proofs.Frames.{frame_exp, frame_target}
 use Rattle.ceu_seen.proofs.Holding.{parts_of, parts_begun, around_parts, left_by, starts}
-use Rattle.ceu_visible.proofs.Stepping.{Fits}
 use Rattle.ceu_settled.specs.Settled.{StmtSettled, BlockSettled, ArmSettled}
 use Rattle.ceu_settled.proofs.Absent.{count_left, count_right}
-use Rattle.ceu_settled.proofs.Sets.{if_settled, rolled_settled, NodeSettled, if_absent, rolled_absent, rolled_count, first_aim, rolled_aim}
+use Rattle.ceu_settled.proofs.Sets.{if_settled, rolled_settled, if_absent, rolled_absent, rolled_count, first_aim, rolled_aim}
 use Rattle.ceu_settled.proofs.Knowing.{Means, Knows, Outside, Step, step_then, Goes, calm_knows, calm_step, still, opened_step, closed_goes, labels_step}
-use Rattle.ceu_settled.proofs.Passing.{out_left, out_right, no_names, Clear, clear_step, Made, Gives, made_join, made_then, made_map, step_made, made_step, draft_made, exp_made}
-use Rattle.ceu_settled.proofs.Parts.{HoldsIn, SetAll, SettledIn, Puts, PutsBy, Holding, put_as, put, Pending, Part, PartBy, part_then, puts_part, plain_part, same_part}
+use Rattle.ceu_settled.proofs.Passing.{no_names, clear_step, Made, Gives, made_join, step_made, made_step, exp_made}
+use Rattle.ceu_settled.proofs.Parts.{HoldsIn, SetAll, SettledIn, PutsBy, Holding, put_as, put, Part, PartBy, part_then, same_part}
 use Rattle.ceu_settled.proofs.Single.{slot_of, loc_target, target_is, simple_put, simple_part, target_put, code_put}
 
 pub bind_ok : (m : Result Walk Broken) (f : Walk → Result Walk Broken) (z : Walk) → (m >>= f) ≡ Ok z → (a : Walk) × (m ≡ Ok a) × (f a ≡ Ok z)
@@ -59,15 +57,15 @@ module _ (T : List (List ℕ)) where
   unfolding outside written
   block_absent own n k f d h = rolled_absent T own n d.node (f (draft.opened k d)).parts.decls (f (draft.opened k d)).parts.list (h own)
 
-  block_settled : (k : ℕ) (f : Draft → Draft) (d : Draft) → SetAll T (f (draft.opened k d)).parts → SettledIn T (f (draft.opened k d)).parts → BlockSettled T (block_of k f d)
+  pub block_settled : (k : ℕ) (f : Draft → Draft) (d : Draft) → SetAll T (f (draft.opened k d)).parts → SettledIn T (f (draft.opened k d)).parts → BlockSettled T (block_of k f d)
   unfolding outside written
   block_settled k f d h g = rolled_settled T d.node (f (draft.opened k d)).parts.decls (f (draft.opened k d)).parts.list h g
 
-  opened_empty : (k : ℕ) (d : Draft) (n : ℕ) → HoldsIn T n (draft.opened k d).parts
+  pub opened_empty : (k : ℕ) (d : Draft) (n : ℕ) → HoldsIn T n (draft.opened k d).parts
   unfolding draft.opened
   opened_empty k d n own = tt
 
-  opened_set : (k : ℕ) (d : Draft) → SetAll T (draft.opened k d).parts × SettledIn T (draft.opened k d).parts
+  pub opened_set : (k : ℕ) (d : Draft) → SetAll T (draft.opened k d).parts × SettledIn T (draft.opened k d).parts
   unfolding draft.opened
   opened_set k d = (tt, tt)
 

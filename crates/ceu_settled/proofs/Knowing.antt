@@ -19,11 +19,11 @@ use Rattle.ceu_scopes.specs.declared.scope.Scope.{Scope}
 use Rattle.ceu_scopes.specs.declared.walk.Walk.{Walk}
 use Rattle.ceu_scopes.specs.Shown.{found, rest_of}
 use Rattle.ceu_scopes.specs.Walk.{Broken, ◌>>=◌, opened, closed, shown, with_name, only, is_global, is_shared, through, or_outside, seen, is_own, in_code, outermost, seen_outer, decl_of}
-use Rattle.ceu_scopes.specs.Rules.{is_variable, is_assigned, is_alias, is_code, takes, resolved, asked, set_broken, noted, used, named, and_on, pool_used, alias_used, checked, declared}
+use Rattle.ceu_scopes.specs.Rules.{is_variable, is_assigned, is_alias, is_code, takes, resolved, asked, set_broken, noted, used, named, and_on, pool_used, alias_used, declared}
 use Rattle.ceu_expand.specs.declared.draft.Draft.{Draft}
 use Rattle.ceu_expand.specs.Uses as uses
 use Rattle.ceu_expand.specs.Uses.{number_at, use_number}
-use Rattle.ceu_proper.proofs.Inside.{append_none, append_assoc}
+use Rattle.ceu_proper.proofs.Inside.{append_assoc}
 use Rattle.ceu_proper.proofs.Steps.{Always, always_ok, always_checked, always_then}
 use Rattle.ceu_visible.proofs.Stepping.{Entries, AllScopes, found_in, with_name_all, rest_all, scopes_map, get_more, get_next, ok_some, resolved_decl, length_more, Fits}
 

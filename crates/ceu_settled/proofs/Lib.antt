@@ -9,3 +9,6 @@ pub mod Ranges
 pub mod Waiting
 pub mod Same
 pub mod Naming
+pub mod Tables
+pub mod Codes
+pub mod Whole

@@ -1,9 +1,8 @@
 -- Statements of the text: what they declare is set behind the declaration, and they name no slot but those that are shown.
-use Rattle.std.proofs.Common.{◌≡◌, ◌≢◌, refl, sym, ap, Bool, true, false, ◌≤◌, ◌∙◌, subst, ℕ, ◌+◌, arith, List, [], ◌∷◌, ◌++◌, Option, Some, None, Result, Ok, Err}
-use Rattle.std.specs.Prelude.{⊤, not, pos}
+use Rattle.std.proofs.Common.{◌≡◌, ◌≢◌, refl, Bool, true, ◌∙◌, ℕ, arith, List, [], ◌∷◌, ◌++◌, Option, Some, None, Result}
+use Rattle.std.specs.Prelude.{⊤}
 use Rattle.ceu_base.specs.declared.kinds.Ty.{Ty}
 use Rattle.ceu_base.specs.declared.kinds.Pos.{Pos}
-use Rattle.ceu_base.specs.declared.kinds.Rule.{Rule}
 use Rattle.ceu_tree.specs.declared.source.Class.TheVariants as class
 use Rattle.ceu_tree.specs.declared.source.Ident.{Ident}
 use Rattle.ceu_tree.specs.declared.source.Target.{Target}
@@ -18,7 +17,6 @@ use Rattle.ceu_tree.specs.declared.source.Range.{Range, Range'}
 use Rattle.ceu_tree.specs.declared.source.Stmt as stmt
 use Rattle.ceu_tree.specs.declared.source.Stmt.{Stmt, Vars', If', Par', Row_of-Item, end_of-Item, more_of-Item, Row_of-Arm, end_of-Arm, more_of-Arm, Row_of-Block, end_of-Block, more_of-Block, Held-Stmt-If-1, Stmt-If-1-None', Stmt-If-1-Some'}
 use Rattle.ceu_tree.specs.declared.kernel.Loc.{Loc}
-use Rattle.ceu_tree.specs.declared.kernel.KDecl.{KDecl}
 use Rattle.ceu_tree.specs.declared.kernel.KKind.TheVariants as kind
 use Rattle.ceu_tree.specs.declared.kernel.KLoop.TheVariants as turns
 use Rattle.ceu_tree.specs.declared.kernel.ParKind.TheVariants as par
@@ -43,21 +41,18 @@ use Rattle.ceu_expand.specs.Draft.{in_loop, in_do, begun, hidden, placed, outsid
 use Rattle.ceu_expand.specs.Lists.{each}
 use Rattle.ceu_expand.specs.Uses as uses
 use Rattle.ceu_expand.specs.Uses.{names_output, use_number, variable, if_variable, if_used}
-use Rattle.ceu_expand.specs.Expressions.{exp_passed, exp_written, constant}
+use Rattle.ceu_expand.specs.Expressions.{exp_passed, exp_written}
 use Rattle.ceu_expand.specs.Parts.{nothing_in, target_awaited, name_passed}
 use Rattle.ceu_expand.specs.Expansion.{row_blocks, par_hidden, par_slot, turns_written, turns_passed, range_hidden, range_written, range_passed, declared_in, stmt_written, source_written, value_written, do_written, ranged, every_written, every_passed, block_written, block_passed, last_written, last_passed, nodes_written, items_written, arms_written, arms_passed, blocks_written, blocks_passed}
 use Rattle.ceu_proper.specs.Shaped.{AllOf}
 use Rattle.ceu_proper.proofs.Codes.{NoCode, NoCodeInSource, NoCodeInValue, NoCodeInDo, NoCodeInBlock, NoCodeInLast, NoCodeInRange, NoCodeInItems, NoCodeInArms, NoCodeInBlocks, NoCodeInNodes}
 use Rattle.ceu_proper.proofs.Steps.{Always, always_ok, always_then}
-use Rattle.ceu_tree.specs.Numbering.{decl_slots}
 use Rattle.ceu_scopes.specs.Shown.{added}
-use Rattle.ceu_proper.proofs.Frames.{frame_used, frame_if_used, frame_standing, frame_labelled, frame_unlabelled, frame_exp, frame_each}
-use Rattle.ceu_proper.proofs.Inside.{append_assoc, Wrote, wrote_same, wrote_then}
-use Rattle.ceu_proper.proofs.Runs.{Runs}
+use Rattle.ceu_proper.proofs.Frames.{frame_used, frame_if_used, frame_labelled, frame_unlabelled, frame_each}
+use Rattle.ceu_proper.proofs.Inside.{wrote_same, wrote_then}
 use Rattle.ceu_tree.specs.Mentions.{loc_names, own_names, maybe_loc, exp_names, stmt_names, block_names, arm_names, count_of}
 use Rattle.ceu_proper.proofs.Wrote.{nodes_wrote}
 use Rattle.ceu_proper.proofs.Parts.{target_wrote}
-use Rattle.ceu_proper.proofs.Counts.{nodes_add, nodes_hide}
 use Rattle.ceu_seen.proofs.Holding.{parts_of, parts_hid, parts_begun, around_parts, starts}
 use Rattle.ceu_seen.proofs.Naming.{block_same}
 use Rattle.ceu_settled.proofs.Same.{turns_parts, last_same, arms_same, blocks_same, range_parts}
@@ -66,11 +61,11 @@ use Rattle.ceu_visible.proofs.Stepping.{Fits}
 use Rattle.ceu_settled.specs.Settled.{StmtSettled, BlockSettled, ArmSettled}
 use Rattle.ceu_settled.proofs.Absent.{count_both, count_left, count_right, count_once, loc_other, own_other}
 use Rattle.ceu_settled.proofs.Sets.{if_settled, par_settled, ArmAbsent, BlockAbsent, if_absent, par_absent}
-use Rattle.ceu_settled.proofs.Knowing.{Knows, Outside, Step, step_then, Goes, calm_step, still, Found, used_found, named_found, alias_found, slot_other, opened_step, closed_goes}
-use Rattle.ceu_settled.proofs.Passing.{no_names, Clear, Made, Gives, made_join, made_map, made_then, step_made, made_step, calm_made, draft_made, variable_other, exp_made}
+use Rattle.ceu_settled.proofs.Knowing.{Knows, Step, step_then, still, Found, used_found, named_found, alias_found, slot_other, opened_step, closed_goes}
+use Rattle.ceu_settled.proofs.Passing.{no_names, Made, Gives, made_map, made_then, step_made, made_step, calm_made, draft_made, variable_other, exp_made}
 use Rattle.ceu_settled.proofs.Parts.{Puts, PutsBy, hidden_step, put, step_puts, Part, PartBy, part_then, parts_then, puts_part, plain_part, same_part, decl_part}
 use Rattle.ceu_settled.proofs.Single.{slot_of, loc_target, target_is, target_first, simple_part, zeroed_put, assigned_put, emitted_part, escaped_part, killed_part, target_put, spawned_put, pool_part, alias_part, each_part, event_part, input_part, output_part}
-use Rattle.ceu_settled.proofs.Blocks.{bind_ok, opened_own, end_block, block_gives, empty_block, do_gives, Comes, await_put}
+use Rattle.ceu_settled.proofs.Blocks.{bind_ok, opened_own, end_block, block_gives, empty_block, do_gives, await_put}
 use Rattle.ceu_settled.proofs.Ranges.{range_made}
 use Rattle.ceu_settled.proofs.Waiting.{Ends, SourceEnds, ValueEnds, DoEnds, BlockEnds, LastEnds, RangeEnds, ItemsEnd, ArmsEnd, BlocksEnd, NodesEnd}
 

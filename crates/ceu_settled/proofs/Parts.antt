@@ -1,6 +1,6 @@
 -- What a statement adds to its block: one statement that sets a slot at most, or a declaration and the statement that sets it.
-use Rattle.std.proofs.Common.{◌≡◌, ◌≢◌, refl, sym, ap, ◌∙◌, subst, ℕ, ◌≤◌, ◌<◌, ◌+◌, length, arith, List, [], ◌∷◌, ◌++◌, Option, Some, None, Result, Ok, Bool, true, false}
-use Rattle.std.specs.Prelude.{⊤, slice_get}
+use Rattle.std.proofs.Common.{◌≡◌, ◌≢◌, refl, sym, ap, ◌∙◌, subst, ℕ, ◌≤◌, ◌<◌, ◌+◌, length, arith, List, [], ◌∷◌, ◌++◌, Option, Some, None, Result, Bool, true, false}
+use Rattle.std.specs.Prelude.{slice_get}
 use Rattle.ceu_base.specs.declared.kinds.Ty.{Ty}
 use Rattle.ceu_base.specs.declared.kinds.Pos.{Pos}
 use Rattle.ceu_base.specs.declared.kinds.Rule.{Rule}
@@ -22,12 +22,12 @@ use Rattle.ceu_expand.specs.Draft as draft
 use Rattle.ceu_expand.specs.Draft.{begun, hidden, placed}
 use Rattle.ceu_proper.specs.Shaped.{AllOf}
 use Rattle.ceu_proper.proofs.Good.{all_append}
-use Rattle.ceu_proper.proofs.Steps.{Always, always_ok, always_then}
+use Rattle.ceu_proper.proofs.Steps.{Always, always_then}
 use Rattle.ceu_visible.proofs.Stepping.{Fits}
 use Rattle.ceu_settled.specs.Settled.{StmtSettled}
 use Rattle.ceu_settled.proofs.Sets.{first_here, Absent, SetIn, set_more, NodeSettled}
-use Rattle.ceu_settled.proofs.Knowing.{is_slotted, Means, slot_means, other_means, Knows, Outside, Step, step_then, Goes, calm_step, Declares, declares, Shows, shown_shows, still}
-use Rattle.ceu_settled.proofs.Passing.{out_left, out_right, Clear, clear_step, Made, Gives, step_made, made_step}
+use Rattle.ceu_settled.proofs.Knowing.{is_slotted, Means, slot_means, other_means, Knows, Outside, Step, step_then, calm_step, Declares, declares, shown_shows}
+use Rattle.ceu_settled.proofs.Passing.{out_left, out_right, Clear, clear_step, Gives}
 
 module _ (T : List (List ℕ)) where
   -- n isn't named in the block so far
@@ -212,16 +212,16 @@ module _ (T : List (List ℕ)) where
 
     -- ---- a declaration of the block
 
-    abbrev own_decl : KKind → Ident → ℕ → KDecl
+    abbrev pub own_decl : KKind → Ident → ℕ → KDecl
     own_decl k x m = record { slot = m; kind = k; name = x.name; pos = x.pos }
 
-    record Declared (k : KKind) (x : Ident) (d : Draft) : Type 0 where
-      uses : (draft.declared k x d).uses ≡ d.uses
-      numbers : (draft.declared k x d).numbers ≡ d.numbers ++ d.parts.slot ∷ []
-      slot : (draft.declared k x d).slot ≡ d.slot
-      parts : (draft.declared k x d).parts ≡ record { decls = d.parts.decls ++ own_decl k x d.parts.slot ∷ []; list = d.parts.list; slot = d.parts.slot + 1 }
+    pub record Declared (k : KKind) (x : Ident) (d : Draft) : Type 0 where
+      pub uses : (draft.declared k x d).uses ≡ d.uses
+      pub numbers : (draft.declared k x d).numbers ≡ d.numbers ++ d.parts.slot ∷ []
+      pub slot : (draft.declared k x d).slot ≡ d.slot
+      pub parts : (draft.declared k x d).parts ≡ record { decls = d.parts.decls ++ own_decl k x d.parts.slot ∷ []; list = d.parts.list; slot = d.parts.slot + 1 }
 
-    declared_is : (k : KKind) (x : Ident) (d : Draft) → Declared k x d
+    pub declared_is : (k : KKind) (x : Ident) (d : Draft) → Declared k x d
     unfolding draft.declared
     declared_is k x d = record { uses = refl; numbers = refl; slot = refl; parts = refl }
 
@@ -296,7 +296,7 @@ module _ (T : List (List ℕ)) where
           knows = λ n o out kn. (sh n).knows (dec.step.knows n o kn) (fresh_other c code w n e.numbers slotted coded);
           holds = λ g n o out kn held. subst (HoldsIn n) (sym is.parts) held;
           goes = λ g top up le clear pending st set. (
-              subst SettledIn (sym is.parts) st,
-              subst SetAll (sym is.parts) (all_append (SetIn T d.parts.list) d.parts.decls (own_decl k x m) set (λ is_set. absurd (cc))),
-            );
+            subst SettledIn (sym is.parts) st,
+            subst SetAll (sym is.parts) (all_append (SetIn T d.parts.list) d.parts.decls (own_decl k x m) set (λ is_set. absurd (cc))),
+          );
         })

@@ -1,5 +1,5 @@
 -- Expressions name no slot but those that are shown.
-use Rattle.std.proofs.Common.{◌≡◌, ◌≢◌, refl, sym, ap, ◌∙◌, subst, ℕ, ◌≤◌, ◌<◌, ◌+◌, arith, List, [], ◌∷◌, ◌++◌, Option, Some, None, Result, Ok, Bool, true, false}
+use Rattle.std.proofs.Common.{◌≡◌, ◌≢◌, refl, sym, ap, ◌∙◌, subst, ℕ, ◌≤◌, ◌<◌, arith, List, [], ◌∷◌, ◌++◌, Option, Some, None, Result, Ok, Bool, true}
 use Rattle.std.specs.Prelude.{⊤}
 use Rattle.ceu_base.specs.declared.kinds.Op1.{Op1}
 use Rattle.ceu_base.specs.declared.kinds.Op2.{Op2}
@@ -12,7 +12,6 @@ use Rattle.ceu_tree.specs.declared.kernel.KExpNode as knode
 use Rattle.ceu_tree.specs.declared.kernel.KExpNode.{KExpNode}
 use Rattle.ceu_tree.specs.declared.kernel.KExpNode.TheBlock.{hidden-the_row-KExp-0}
 use Rattle.ceu_tree.specs.Mentions.{loc_names, own_names, node_names, exp_names, maybe_exp, exps_names, count_of}
-use Rattle.ceu_scopes.specs.declared.known.Known.{Known}
 use Rattle.ceu_scopes.specs.declared.known.Role.{Role}
 use Rattle.ceu_scopes.specs.declared.known.Role.TheVariants as role
 use Rattle.ceu_scopes.specs.declared.known.Scopes.{Scopes}
@@ -31,7 +30,7 @@ use Rattle.ceu_expand.specs.Expressions.{exp_passed, if_exp_passed, exp_written,
 use Rattle.ceu_proper.proofs.Steps.{Always, always_ok, always_then}
 use Rattle.ceu_visible.proofs.Stepping.{Fits}
 use Rattle.ceu_settled.proofs.Absent.{count_both, loc_other, own_other}
-use Rattle.ceu_settled.proofs.Knowing.{names_slot, Knows, Outside, Step, step_then, Goes, calm_step, Found, named_found, slot_other, still}
+use Rattle.ceu_settled.proofs.Knowing.{names_slot, Knows, Outside, Step, step_then, Goes, calm_step, named_found, slot_other, still}
 use denote.Hole.Carrier
 
 pub out_left : (a b c n : ℕ) → b ≤ c → Outside a c n → Outside a b n

@@ -1,6 +1,6 @@
 -- A range, whose variable has a slot of its own.
-use Rattle.std.proofs.Common.{◌≡◌, ◌≢◌, refl, sym, ap, ◌∙◌, subst, ℕ, ◌≤◌, ◌+◌, length, arith, List, [], ◌∷◌, ◌++◌, Option, Some, None, Result, Ok, Bool, true, false}
-use Rattle.std.specs.Prelude.{⊤, slice_get}
+use Rattle.std.proofs.Common.{◌≡◌, ◌≢◌, refl, ◌∙◌, ℕ, ◌≤◌, ◌+◌, arith, List, [], ◌∷◌, ◌++◌, None, Result, Bool}
+use Rattle.std.specs.Prelude.{⊤}
 use Rattle.ceu_base.specs.declared.kinds.Ty.TheVariants as ty
 use Rattle.ceu_tree.specs.declared.source.Class.TheVariants as class
 use Rattle.ceu_tree.specs.declared.source.Ident.{Ident}
@@ -14,14 +14,13 @@ use Rattle.ceu_scopes.specs.Rules.{declared}
 use Rattle.ceu_scopes.specs.Names.{exp_walked, range_opened}
 use Rattle.ceu_types.specs.declared.typing.Types.{Types}
 use Rattle.ceu_expand.specs.declared.draft.Draft.{Draft}
-use Rattle.ceu_expand.specs.Draft.{begun, hidden, standing}
+use Rattle.ceu_expand.specs.Draft.{hidden, standing}
 use Rattle.ceu_expand.specs.Expressions.{exp_passed, exp_written}
 use Rattle.ceu_expand.specs.Expansion.{range_hidden, range_passed}
 use Rattle.ceu_proper.proofs.Frames.{frame_exp}
 use Rattle.ceu_seen.proofs.Holding.{slot_of}
-use Rattle.ceu_visible.proofs.Stepping.{Fits}
-use Rattle.ceu_settled.proofs.Knowing.{Means, Knows, Outside, Step, step_then, Declares, declares, Shows, shown_shows, opened_step, closed_goes}
-use Rattle.ceu_settled.proofs.Passing.{out_left, Clear, Made, Gives, made_join, made_then, step_made, made_step, exp_made}
+use Rattle.ceu_settled.proofs.Knowing.{Step, step_then, declares, shown_shows, opened_step, closed_goes}
+use Rattle.ceu_settled.proofs.Passing.{Made, Gives, made_join, made_then, step_made, made_step, exp_made}
 use Rattle.ceu_settled.proofs.Parts.{hidden_step, fresh_slot}
 use Rattle.ceu_settled.proofs.Blocks.{bind_ok}
 

@@ -1,6 +1,6 @@
 -- A block's list in which a slot is set before it is named otherwise.
 use Rattle.std.proofs.Common.{◌≡◌, refl, sym, ap, ◌∙◌, subst, ℕ, ◌+◌, arith, List, [], ◌∷◌, ◌++◌, Option, Some, None, Bool, true, false}
-use Rattle.std.specs.Prelude.{⊤, ◌==◌, ◌&&◌, if◌then◌else◌, IsTrue}
+use Rattle.std.specs.Prelude.{◌==◌, ◌&&◌, if◌then◌else◌}
 use Rattle.std.proofs.lemmas.Bool.Decides.{Decides-eqb}
 use Rattle.ceu_tree.specs.declared.kernel.KNode.{KNode}
 use Rattle.ceu_tree.specs.declared.kernel.KDecl.{KDecl}
@@ -12,7 +12,7 @@ use Rattle.ceu_tree.specs.declared.kernel.KBlock.{KBlock, KBlock', roll-KBlock, 
 use Rattle.ceu_tree.specs.declared.kernel.KStmt as kernel
 use Rattle.ceu_tree.specs.declared.kernel.KStmt.{KStmt, Row_of-KArm, end_of-KArm, more_of-KArm, items-the_row-KArm, items_hidden-the_row-KArm-0, items_hidden-the_row-KBlock-1, Row_of-KBlock, end_of-KBlock, more_of-KBlock, items-the_row-KBlock, Assign, AwaitIn, AwaitTime, AwaitEvent, AwaitCode, Spawn, Unset, Do, Loop}
 use Rattle.ceu_tree.specs.declared.kernel.KStmt.TheBlock.{hidden-the_row-KArm-0, hidden-the_row-KBlock-1, hidden-the_row-KNode-2}
-use Rattle.ceu_tree.specs.Mentions.{named_by, loc_names, own_names, maybe_loc, maybe_own, exp_names, exps_names, stmt_names, block_names, arm_names, list_names, arms_names, blocks_names, count_of, is_loc, is_slot, await_target, first_target, body_target, sets, set_first, is_set_decl, all_set}
+use Rattle.ceu_tree.specs.Mentions.{named_by, loc_names, maybe_loc, maybe_own, exp_names, exps_names, stmt_names, block_names, arm_names, list_names, arms_names, blocks_names, count_of, is_loc, is_slot, await_target, first_target, body_target, sets, set_first, is_set_decl, all_set}
 use Rattle.ceu_proper.specs.Shaped.{AllOf}
 use Rattle.ceu_settled.specs.Settled.{StmtSettled, BlockSettled, ArmSettled, NodesSettled, ArmsSettled, BlocksSettled}
 use Rattle.ceu_settled.proofs.Absent.{eq_is, count_append, count_both, count_left, count_right, count_once}

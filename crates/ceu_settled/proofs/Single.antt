@@ -1,6 +1,6 @@
 -- Statements without blocks of the text name no slot but those that are shown, and the slot that they set.
-use Rattle.std.proofs.Common.{◌≡◌, ◌≢◌, refl, sym, ap, ◌∙◌, subst, ℕ, ◌≤◌, ◌+◌, length, arith, List, [], ◌∷◌, ◌++◌, Option, Some, None, Result, Ok, Bool, true, false}
-use Rattle.std.specs.Prelude.{⊤, ◌==◌, pos}
+use Rattle.std.proofs.Common.{◌≡◌, refl, ◌∙◌, subst, ℕ, length, arith, List, [], ◌∷◌, ◌++◌, Option, Some, None, Result, Ok, Bool, true, false}
+use Rattle.std.specs.Prelude.{⊤, ◌==◌}
 use Rattle.ceu_base.specs.declared.kinds.Ty.{Ty}
 use Rattle.ceu_base.specs.declared.kinds.Ty.TheVariants as ty
 use Rattle.ceu_base.specs.declared.kinds.Pos.{Pos}
@@ -42,12 +42,11 @@ use Rattle.ceu_expand.specs.Parts.{simple, zeroed, assigned, sent, emitted, esca
 use Rattle.ceu_proper.proofs.Steps.{Always, always_ok, always_checked, always_then}
 use Rattle.ceu_proper.proofs.Frames.{frame_used, frame_exp, frame_if_exp, frame_each, frame_target}
 use Rattle.ceu_seen.proofs.Holding.{parts_of, parts_hid, parts_begun}
-use Rattle.ceu_visible.proofs.Stepping.{Fits}
 use Rattle.ceu_settled.specs.Settled.{StmtSettled}
 use Rattle.ceu_settled.proofs.Absent.{eq_true, count_append, count_once, own_other}
-use Rattle.ceu_settled.proofs.Knowing.{is_slotted, Means, Knows, Outside, Step, step_then, Goes, goes_then, still, Found, used_found, named_found, pool_found, code_other, Declares, declares, Shows, shown_shows}
-use Rattle.ceu_settled.proofs.Passing.{no_names, Clear, Made, Gives, made_map, made_join, made_then, step_made, made_step, goes_made, calm_made, draft_made, alias_made, used_goes, exp_made, exps_made, if_exp_made}
-use Rattle.ceu_settled.proofs.Parts.{Puts, PutsBy, hidden_step, put, Part, PartBy, part_then, parts_then, puts_part, plain_part, same_part, fresh_other, decl_part, bare_part}
+use Rattle.ceu_settled.proofs.Knowing.{is_slotted, Step, Goes, still, used_found, named_found, pool_found, code_other, Declares, declares, shown_shows}
+use Rattle.ceu_settled.proofs.Passing.{no_names, Made, Gives, made_join, made_then, made_step, goes_made, calm_made, draft_made, alias_made, used_goes, exp_made, exps_made, if_exp_made}
+use Rattle.ceu_settled.proofs.Parts.{PutsBy, hidden_step, put, Part, PartBy, part_then, parts_then, plain_part, same_part, fresh_other, decl_part, bare_part}
 
 abbrev pub slot_of : Option Loc → Option ℕ
 slot_of None = None

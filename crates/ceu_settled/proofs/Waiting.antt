@@ -1,6 +1,6 @@
 -- A text that breaks no rule on types sets no variable by `await FOREVER`.
-use Rattle.std.proofs.Common.{◌≡◌, refl, sym, ap, ◌∙◌, ℕ, List, [], ◌∷◌, Option, Some, None, Ok, true, false}
-use Rattle.std.specs.Prelude.{⊤, fold, not, Bool}
+use Rattle.std.proofs.Common.{◌≡◌, refl, ℕ, List, [], ◌∷◌, Option, Some, None, Ok, true, false}
+use Rattle.std.specs.Prelude.{⊤, fold, not}
 use Rattle.ceu_base.specs.declared.kinds.Ty.{Ty}
 use Rattle.ceu_base.specs.declared.kinds.Ty.TheVariants as ty
 use Rattle.ceu_base.specs.declared.kinds.Rule.TheVariants.{T1, T4, T5, T6}
@@ -23,7 +23,6 @@ use Rattle.ceu_tree.specs.declared.source.Range.{Range, Range'}
 use Rattle.ceu_tree.specs.declared.source.Stmt as stmt
 use Rattle.ceu_tree.specs.declared.source.Stmt.{Stmt, Vars', If', Par', Row_of-Item, end_of-Item, more_of-Item, Row_of-Arm, end_of-Arm, more_of-Arm, Row_of-Block, end_of-Block, more_of-Block, Held-Stmt-If-1, Stmt-If-1-None', Stmt-If-1-Some'}
 use Rattle.ceu_tree.specs.declared.source.Tree.{Tree}
-
 use Rattle.ceu_tree.specs.declared.kernel.Loc.{Loc}
 use Rattle.ceu_tree.specs.Proper.{InTrail}
 use Rattle.ceu_scopes.specs.declared.known.Scopes.{Scopes}
@@ -32,14 +31,13 @@ use Rattle.ceu_types.specs.declared.around.Around.{Around}
 use Rattle.ceu_types.specs.declared.found.Found.{Found}
 use Rattle.ceu_types.specs.declared.found.Broken.{Broken}
 use Rattle.ceu_types.specs.declared.found.LabelTarget.{LabelTarget}
-use Rattle.ceu_types.specs.Notes.{asks_own, passed, not_in_every, not_in_finalizer, begun, ended, ended_after}
-use Rattle.ceu_types.specs.Uses.{use_type}
+use Rattle.ceu_types.specs.Notes.{asks_own, passed, not_in_finalizer, begun, ended, ended_after}
 use Rattle.ceu_types.specs.Expressions.{condition, given}
 use Rattle.ceu_types.specs.Around.{program_around, code_around, async_around, loop_around, do_around, labelled, unlabelled}
 use Rattle.ceu_types.specs.Statements.{await_type, await_found, target_found, taken, waits, acts, if_spawn_found, name_typed, param_found, params_found, every_takes, every_begun, every_ended, finalizer_begun, finalizer_ended, async_begun, async_ended, stmt_found, source_found, value_found, do_found, block_found, arm_found, last_found, range_found, items_found, arms_found, blocks_found, nodes_found, nothing_found, answer, types_of}
 use Rattle.ceu_expand.specs.declared.draft.Draft.{Draft}
 use Rattle.ceu_expand.specs.Draft.{nothing_written}
-use Rattle.ceu_exits.proofs.Fine.{Fine, fine_as, fine_own, fine_asks, fine_every, fine_acts, fine_waits, fine_finalizer, fine_passed, fine_ended}
+use Rattle.ceu_exits.proofs.Fine.{Fine, fine_own, fine_asks, fine_every, fine_acts, fine_waits, fine_finalizer, fine_passed, fine_ended}
 use Rattle.ceu_exits.proofs.Pieces.{given_step, condition_step, spawn_step, target_step, taken_step, emit_step, jumped_step, escape_step, names_step, every_step}
 use Rattle.ceu_exits.proofs.Leaves.{await_wait}
 
