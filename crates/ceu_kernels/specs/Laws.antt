@@ -1,0 +1,19 @@
+-- Laws of the kernels that texts give: each is proper.
+use Rattle.std.specs.Prelude.{◌++◌, IsTrue}
+use Rattle.ceu_tree.specs.declared.kernel.Kernel.{Kernel}
+use Rattle.ceu_tree.specs.Numbering.{is_numbered}
+use Rattle.ceu_tree.specs.Proper.{ports_ok, Proper}
+use Rattle.ceu_proper.specs.Shaped.{KernelShaped}
+use Rattle.ceu_proper.specs.Events.{EventsInCodes}
+use Rattle.ceu_visible.specs.Above.{KernelUses}
+use Rattle.ceu_exits.specs.Exits.{KernelStands}
+use Rattle.ceu_seen.specs.Sees.{KernelSeen}
+use Rattle.ceu_settled.specs.Settled.{KernelSettled}
+use Rattle.ceu_typed.specs.Typed.{KernelTyped}
+use Rattle.ceu_named.specs.Named.{KernelNamed}
+
+-- what the laws of kernels say one by one makes a kernel proper
+abbrev pub KernelsFit : Type 0
+KernelsFit =
+    (K : Kernel) → IsTrue (is_numbered K) → IsTrue (ports_ok (K.inputs ++ K.outputs)) → EventsInCodes K → KernelShaped K → KernelUses K → KernelStands K →
+    KernelSeen K → KernelTyped K → KernelNamed K → KernelSettled K → Proper K

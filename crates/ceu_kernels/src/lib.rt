@@ -1,0 +1,10 @@
+//! Laws of the kernels that texts give: each is proper. The contracts of functions with empty bodies.
+#![tactic(auto)]
+
+ghost use Rattle.ceu_kernels.specs.Laws.{KernelsFit};
+
+/// A kernel is proper where its nodes and slots are numbered, its shapes are those of a text, and all that it names is visible where it is named, has
+/// its type and is set before.
+pub fn kernels_fit()
+    ensures { KernelsFit }
+{}
