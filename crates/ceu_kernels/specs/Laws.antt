@@ -1,14 +1,20 @@
 -- Laws of the kernels that texts give: each is proper.
-use Rattle.std.specs.Prelude.{◌++◌, IsTrue}
+use Rattle.std.specs.Prelude.{ℕ, ◌++◌, IsTrue, List}
+use Rattle.ceu_lex.specs.declared.token.Token.{Token}
+use Rattle.ceu_lex.specs.Texts.{Reads}
+use Rattle.ceu_syntax.specs.Grammar.{Derives}
+use Rattle.ceu_tree.specs.declared.source.Tree.{Tree}
 use Rattle.ceu_tree.specs.declared.kernel.Kernel.{Kernel}
 use Rattle.ceu_tree.specs.Numbering.{is_numbered}
 use Rattle.ceu_tree.specs.Proper.{ports_ok, Proper}
-use Rattle.ceu_proper.specs.Shaped.{KernelShaped}
+use Rattle.ceu_proper.specs.Shaped.{TreePlaced, KernelShaped}
 use Rattle.ceu_proper.specs.Events.{EventsInCodes}
+use Rattle.ceu_visible.specs.Ports.{TreeNamed}
 use Rattle.ceu_visible.specs.Above.{KernelUses}
 use Rattle.ceu_exits.specs.Exits.{KernelStands}
 use Rattle.ceu_seen.specs.Sees.{KernelSeen}
 use Rattle.ceu_settled.specs.Settled.{KernelSettled}
+use Rattle.ceu_typed.specs.Times.{TreeTimed}
 use Rattle.ceu_typed.specs.Typed.{KernelTyped}
 use Rattle.ceu_named.specs.Named.{KernelNamed}
 
@@ -17,3 +23,8 @@ abbrev pub KernelsFit : Type 0
 KernelsFit =
     (K : Kernel) → IsTrue (is_numbered K) → IsTrue (ports_ok (K.inputs ++ K.outputs)) → EventsInCodes K → KernelShaped K → KernelUses K → KernelStands K →
     KernelSeen K → KernelTyped K → KernelNamed K → KernelSettled K → Proper K
+
+-- the tree that the tokens of a text derive: its positions are those of tokens, inputs and outputs have names of external events, numbers and times
+-- are in range, and a par has two branches at least
+abbrev pub TreesDerived : Type 0
+TreesDerived = (text : List ℕ) (tokens : List Token) (tree : Tree) → Reads text tokens → Derives text tokens tree → TreePlaced tree × TreeNamed tree × TreeTimed tree

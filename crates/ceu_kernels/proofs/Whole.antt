@@ -1,0 +1,34 @@
+-- The kernel of a program that breaks no rule on names and types is proper.
+use Rattle.std.proofs.Common.{◌≡◌, List, Ok}
+use Rattle.ceu_tree.specs.declared.source.Tree.{Tree}
+use Rattle.ceu_tree.specs.Proper.{Proper}
+use Rattle.ceu_scopes.specs.declared.known.Scopes.{Scopes}
+use Rattle.ceu_scopes.specs.Names.{scopes_of}
+use Rattle.ceu_types.specs.declared.typing.Types.{Types}
+use Rattle.ceu_types.specs.Statements.{types_of}
+use Rattle.ceu_expand.specs.Expansion.{kernel_of}
+use Rattle.ceu_proper.specs.Shaped.{TreePlaced}
+use Rattle.ceu_proper.proofs.Depths.{codes_outermost}
+use Rattle.ceu_proper.proofs.Whole.{numbered}
+use Rattle.ceu_proper.proofs.Shaping.{shaped}
+use Rattle.ceu_proper.proofs.EventLaws.{events}
+use Rattle.ceu_visible.specs.Ports.{TreeNamed}
+use Rattle.ceu_visible.proofs.InnerDepths.{tree_outer}
+use Rattle.ceu_visible.proofs.PortLaws.{ports}
+use Rattle.ceu_visible.proofs.UsingCodes.{above}
+use Rattle.ceu_exits.proofs.Bodies.{stands}
+use Rattle.ceu_seen.proofs.Whole.{sees}
+use Rattle.ceu_settled.proofs.Waiting.{tree_ends}
+use Rattle.ceu_settled.proofs.Whole.{settles}
+use Rattle.ceu_typed.specs.Times.{TreeTimed}
+use Rattle.ceu_typed.specs.Typed.{KernelTyped}
+use Rattle.ceu_named.proofs.Whole.{named}
+use Rattle.ceu_kernels.proofs.Fitting.{fits}
+
+pub proper : (tree : Tree) (s : Scopes) (t : Types) → scopes_of tree ≡ Ok s → types_of s tree ≡ Ok t.exps → TreePlaced tree → TreeNamed tree → KernelTyped (kernel_of s t tree) → Proper (kernel_of s t tree)
+proper tree s t h k place name typed =
+    let outermost = codes_outermost tree s h in
+    let outer = tree_outer tree s h in
+    let stood = stands s t tree outermost t.exps k in
+    fits (kernel_of s t tree) (numbered s t tree outermost) (ports s t tree outer s h name) (events s t tree outermost) (shaped s t tree place) (above s t tree outermost outer h) stood (sees s t tree outermost h) typed (named s t tree outermost h stood)
+    (settles s t tree outermost (tree_ends s t tree t.exps k) h)
