@@ -1,6 +1,6 @@
 -- What tokens derive takes its positions, names and numbers from them.
-use Rattle.std.proofs.Common.{◌≡◌, inl, inr, refl, sym, ap, ◌∙◌, subst, ℕ, ◌<◌, ◌≤◌, ◌+◌, Bool, true, false, List, [], ◌∷◌, Option, Some, None, if◌then◌else◌, arith}
-use Rattle.std.specs.Prelude.{⊤, nat_le, ◌^◌}
+use Rattle.std.proofs.Common.{◌≡◌, inl, inr, sym, subst, ℕ, ◌≤◌, Bool, true, false, List, [], ◌∷◌, Option, if◌then◌else◌, arith}
+use Rattle.std.specs.Prelude.{nat_le}
 use Rattle.std.proofs.lemmas.Bool.Decides.{leb_tells}
 use Rattle.ceu_tree.specs.declared.source.Ident.{Ident}
 use Rattle.ceu_tree.specs.declared.source.Param.{Param}
@@ -16,7 +16,6 @@ use Rattle.ceu_tree.specs.declared.source.Node.{Node}
 use Rattle.ceu_tree.specs.declared.source.Arm.{Arm}
 use Rattle.ceu_tree.specs.declared.source.Stmt.{back-Stmt-If-1}
 use Rattle.ceu_syntax.specs.declared.machine.Case.TheVariants as case
-use Rattle.ceu_syntax.specs.declared.terminal.Kind.TheVariants as k
 use Rattle.ceu_syntax.specs.declared.terminal.Terminal.{Terminal}
 use Rattle.ceu_syntax.specs.Terminals.{saturated}
 use Rattle.ceu_syntax.specs.Expressions.{Location, is_here, is_outer, Calls, Spawns, spawns, Targets, is_input, is_event, is_time, is_time_expression, Awaits, is_forever, is_target, is_until}
@@ -44,6 +43,7 @@ saturated_in n = elim (leb_tells n 4294967295) [ inl h ↦ in_then h.0 h.1 | inr
   where
     in_then : nat_le n 4294967295 ≡ true → n ≤ 4294967295 → InRange (saturated n)
     in_then e le = subst (λ b. InRange (if b then n else 4294967295)) (sym e) (omega arith)
+
     in_else : nat_le n 4294967295 ≡ false → InRange (saturated n)
     in_else e = subst (λ b. InRange (if b then n else 4294967295)) (sym e) (omega arith)
 

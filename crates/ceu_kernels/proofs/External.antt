@@ -1,18 +1,18 @@
 -- A token of the class of external events has a name of theirs.
-use Rattle.std.proofs.Common.{◌≡◌, inl, inr, refl, sym, ap, ◌∙◌, subst, ℕ, suc, ◌<◌, ◌≤◌, length, arith, List, [], ◌∷◌, Option, Some, None, Ok, Err, Bool, true, false, cond}
-use Rattle.std.specs.Prelude.{Result, ◌&&◌, ◌||◌, ◌==◌, nat_le, nat_lt, slice_index}
+use Rattle.std.proofs.Common.{◌≡◌, inl, inr, refl, ap, ℕ, ◌≤◌, length, arith, List, [], ◌∷◌, Option, Some, None, Ok, Err, Bool, true, false, cond}
+use Rattle.std.specs.Prelude.{Result, ◌&&◌, ◌||◌, ◌==◌, nat_lt, slice_index}
 use Rattle.std.specs.Char.{is_ascii_uppercase, is_ascii_lowercase, is_ascii_digit}
 use Rattle.std.specs.List.{list_all, list_any}
-use Rattle.std.proofs.lemmas.Bool.{and_parts, lt-ltb}
+use Rattle.std.proofs.lemmas.Bool.{lt-ltb}
 use Rattle.std.proofs.lemmas.Bool.Decides.{leb_tells}
 use Rattle.ceu_base.specs.declared.kinds.Rule.TheVariants.{L5}
 use Rattle.ceu_base.specs.declared.kinds.Rule.{Rule}
 use Rattle.ceu_lex.specs.declared.token.TokenKind.{TokenKind}
-use Rattle.ceu_lex.specs.declared.token.TokenKind.TheVariants.{Reserved, Lower, Ext, Abs}
+use Rattle.ceu_lex.specs.declared.token.TokenKind.TheVariants.{Lower, Ext, Abs}
 use Rattle.ceu_lex.specs.declared.token.Word.{Word}
 use Rattle.ceu_lex.specs.Bytes.{is_word_byte}
-use Rattle.ceu_lex.specs.Lexemes.{reserved, name_kind, kind_of_word, lexeme}
-use Rattle.ceu_tree.specs.Proper.{is_capital, is_external_letter, is_external}
+use Rattle.ceu_lex.specs.Lexemes.{reserved, kind_of_word, lexeme}
+use Rattle.ceu_tree.specs.Proper.{is_external_letter, is_external}
 use Rattle.ceu_spelling.proofs.Names.{whole_name}
 use Rattle.ceu_kernels.proofs.Leaves.{both}
 

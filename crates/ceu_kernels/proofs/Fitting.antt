@@ -1,10 +1,9 @@
 -- What the laws of kernels say one by one makes a kernel proper.
-use Rattle.std.proofs.Common.{◌≡◌, refl, sym, ap, ◌∙◌, subst, ℕ, suc, ◌+◌, ◌<◌, ◌≤◌, length, arith, List, [], ◌∷◌, ◌++◌, Option, Some, None, Bool, true, false}
+use Rattle.std.proofs.Common.{◌≡◌, refl, subst, ℕ, suc, ◌+◌, ◌≤◌, length, arith, List, [], ◌∷◌, ◌++◌, Option, Some, None, Bool, true, false}
 use Rattle.std.specs.Prelude.{⊤, ◌^◌, not, ◌&&◌, nat_le, nat_lt, IsTrue}
-use Rattle.std.proofs.lemmas.Bool.{lt-ltb, le-leb, eqb-true}
+use Rattle.std.proofs.lemmas.Bool.{lt-ltb, le-leb}
 use Rattle.std.proofs.lemmas.Bool.Decides.{Decides-eqb}
 use Rattle.std.specs.List.{list_all}
-use Rattle.ceu_base.specs.declared.kinds.Ty.{Ty}
 use Rattle.ceu_base.specs.declared.kinds.Ty.TheVariants as ty
 use Rattle.ceu_base.specs.declared.kinds.Pos.{Pos}
 use Rattle.ceu_tree.specs.declared.kernel.Kernel.{Kernel}
@@ -13,28 +12,24 @@ use Rattle.ceu_tree.specs.declared.kernel.KEvent.{KEvent}
 use Rattle.ceu_tree.specs.declared.kernel.KDecl.{KDecl}
 use Rattle.ceu_tree.specs.declared.kernel.KKind.{KKind}
 use Rattle.ceu_tree.specs.declared.kernel.KKind.TheVariants as kind
-use Rattle.ceu_tree.specs.declared.kernel.KLoop.{KLoop}
 use Rattle.ceu_tree.specs.declared.kernel.KLoop.TheVariants as turns
 use Rattle.ceu_tree.specs.declared.kernel.ParKind.{ParKind}
 use Rattle.ceu_tree.specs.declared.kernel.ParKind.TheVariants as par
-use Rattle.ceu_tree.specs.declared.kernel.Loc.{Loc}
-use Rattle.ceu_tree.specs.declared.kernel.KExp.{KExp}
-use Rattle.ceu_tree.specs.declared.kernel.KBlock.{KBlock, KBlock', out-KBlock, Row_of-KNode, end_of-KNode, more_of-KNode}
+use Rattle.ceu_tree.specs.declared.kernel.KBlock.{KBlock, KBlock', Row_of-KNode, end_of-KNode, more_of-KNode}
 use Rattle.ceu_tree.specs.declared.kernel.KArm.{KArm, KArm'}
 use Rattle.ceu_tree.specs.declared.kernel.KStmt.{KStmt, Row_of-KArm, end_of-KArm, more_of-KArm, Row_of-KBlock, end_of-KBlock, more_of-KBlock, Nothing, Assign, Out, Emit, AwaitIn, AwaitTime, AwaitEvent, Forever, AwaitCode, Spawn, Kill, Unset, Async, Finalize, Do, Escape, Break, Continue, If', Loop, Par'}
 use Rattle.ceu_tree.specs.Numbering.{is_numbered, row_length}
-use Rattle.ceu_tree.specs.Mentions.{outer_names_from, all_set}
-use Rattle.ceu_tree.specs.Leaf.{code_at}
+use Rattle.ceu_tree.specs.Mentions.{outer_names_from}
 use Rattle.ceu_tree.specs.Typing.{same_ty}
-use Rattle.ceu_tree.specs.Proper.{Scope, Aim, BodyAim, LoopAim, Where, InTrail, find, with_decls, with_loop_variable, with_aim, is_in_code, is_trail, outside_asyncs, outside_finalizers, alias_takes, is_code, gives_all, takes_if, port_ty, event_at, on_code, loop_ok, with_turns, do_aim, par_ok, in_async, in_finalizer, decl_ok, stmt_ok, block_ok, arm_ok, nodes_ok, arms_ok, blocks_ok, body_scope, is_parameter, codes_ok, ports_ok, events_ok, is_proper, Proper}
-use Rattle.ceu_proper.specs.Shaped.{AllOf, IsPlace, KindShaped, DeclShaped, TurnsShaped, ParShaped, StmtShaped, BlockShaped, ArmShaped, NodesShaped, ArmsShaped, BlocksShaped, CodeShaped, EventShaped, KernelShaped}
+use Rattle.ceu_tree.specs.Proper.{Scope, LoopAim, find, with_decls, with_loop_variable, with_aim, is_trail, outside_finalizers, alias_takes, gives_all, takes_if, port_ty, event_at, on_code, do_aim, par_ok, in_async, in_finalizer, decl_ok, stmt_ok, block_ok, arm_ok, nodes_ok, arms_ok, blocks_ok, body_scope, is_parameter, codes_ok, ports_ok, events_ok, is_proper, Proper}
+use Rattle.ceu_proper.specs.Shaped.{AllOf, IsPlace, KindShaped, DeclShaped, ParShaped, StmtShaped, BlockShaped, ArmShaped, NodesShaped, ArmsShaped, BlocksShaped, CodeShaped, EventShaped, KernelShaped}
 use Rattle.ceu_proper.specs.Events.{CodeBelow, EventBelow, EventsInCodes}
 use Rattle.ceu_visible.specs.Above.{KindUses, DeclUses, StmtUses, BlockUses, ArmUses, NodesUse, ArmsUse, BlocksUse, CodesUse, KernelUses}
-use Rattle.ceu_exits.specs.Exits.{aim_of, DeclStands, StmtStands, BlockStands, ArmStands, NodesStand, ArmsStand, BlocksStand, CodeStands, KernelStands}
-use Rattle.ceu_seen.specs.Sees.{seen_inside, StmtSeen, BlockSeen, ArmSeen, NodesSeen, ArmsSeen, BlocksSeen, CodeSeen, KernelSeen}
+use Rattle.ceu_exits.specs.Exits.{DeclStands, StmtStands, BlockStands, ArmStands, NodesStand, ArmsStand, BlocksStand, CodeStands, KernelStands}
+use Rattle.ceu_seen.specs.Sees.{StmtSeen, BlockSeen, ArmSeen, NodesSeen, ArmsSeen, BlocksSeen, CodeSeen, KernelSeen}
 use Rattle.ceu_settled.specs.Settled.{StmtSettled, BlockSettled, ArmSettled, NodesSettled, ArmsSettled, BlocksSettled, CodeSettled, KernelSettled}
-use Rattle.ceu_typed.specs.Typed.{ExpGiven, ArgsGiven, MaybeTakes, TurnsTyped, DeclTyped, ParamTyped, StmtTyped, BlockTyped, ArmTyped, NodesTyped, ArmsTyped, BlocksTyped, CodesTyped, KernelTyped}
-use Rattle.ceu_named.specs.Named.{MaybeAlias, TurnsNamed, StmtNamed, BlockNamed, ArmNamed, NodesNamed, ArmsNamed, BlocksNamed, CodesNamed, KernelNamed}
+use Rattle.ceu_typed.specs.Typed.{ArgsGiven, MaybeTakes, DeclTyped, ParamTyped, StmtTyped, BlockTyped, ArmTyped, NodesTyped, ArmsTyped, BlocksTyped, CodesTyped, KernelTyped}
+use Rattle.ceu_named.specs.Named.{MaybeAlias, StmtNamed, BlockNamed, ArmNamed, NodesNamed, ArmsNamed, BlocksNamed, CodesNamed, KernelNamed}
 use Rattle.ceu_kernels.proofs.Leaves.{both, bare, exp_leaves, exp_given, maybe_given, args_given}
 use Rattle.ceu_kernels.proofs.Targets.{bound_of, on_code_of, code_is, takes_maybe, takes_own, on_ty_of, on_event_of, escape_of, loop_of}
 

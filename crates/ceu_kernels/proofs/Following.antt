@@ -1,6 +1,5 @@
 -- The tokens behind an expression, a call, an await or a list of names are among those before it.
-use Rattle.std.proofs.Common.{ℕ, List, ◌∷◌, Option}
-use Rattle.std.specs.Prelude.{⊤}
+use Rattle.std.proofs.Common.{ℕ, List}
 use Rattle.ceu_tree.specs.declared.kernel.ParKind.{ParKind}
 use Rattle.ceu_tree.specs.declared.source.Ident.{Ident}
 use Rattle.ceu_tree.specs.declared.source.Exp.{Exp}

@@ -1,8 +1,7 @@
 -- Expressions that name what is visible have the types that they are given.
-use Rattle.std.proofs.Common.{◌≡◌, refl, sym, ap, ◌∙◌, subst, ℕ, List, [], ◌∷◌, Option, Some, None, Bool, true, false}
-use Rattle.std.specs.Prelude.{⊤, not, ◌&&◌, if◌then◌else◌, IsTrue}
+use Rattle.std.proofs.Common.{◌≡◌, refl, ap, ◌∙◌, List, [], ◌∷◌, Option, Some, None, Bool, true, false}
+use Rattle.std.specs.Prelude.{◌&&◌, if◌then◌else◌}
 use Rattle.ceu_base.specs.declared.kinds.Ty.{Ty}
-use Rattle.ceu_base.specs.declared.kinds.Ty.TheVariants as ty
 use Rattle.ceu_tree.specs.declared.kernel.Kernel.{Kernel}
 use Rattle.ceu_tree.specs.declared.kernel.KDecl.{KDecl}
 use Rattle.ceu_tree.specs.declared.kernel.KKind.{KKind}
@@ -10,7 +9,6 @@ use Rattle.ceu_tree.specs.declared.kernel.KKind.TheVariants as kind
 use Rattle.ceu_tree.specs.declared.kernel.Loc.{Loc}
 use Rattle.ceu_tree.specs.declared.kernel.KExp.{KExp}
 use Rattle.ceu_tree.specs.declared.kernel.KExpNode.{KExpNode, Row_of-KExp, end_of-KExp, more_of-KExp, Const, Read, Alive, One', Two', As'}
-use Rattle.ceu_tree.specs.Typing.{same_ty}
 use Rattle.ceu_tree.specs.declared.kernel.KBlock.{out-KBlock}
 use Rattle.ceu_tree.specs.Proper.{Scope, is_in_code, declared_seen, find, variable_ty, has_ty, reads, asks, gives, gives_if, gives_all}
 use Rattle.ceu_proper.specs.Shaped.{AllOf}

@@ -1,5 +1,5 @@
 -- The tree that the tokens of a text derive has positions, names and numbers of tokens.
-use Rattle.std.proofs.Common.{◌≡◌, refl, sym, ap, ◌∙◌, subst, ℕ, ◌+◌, ◌≤◌, arith, List, [], ◌∷◌, Bool, true, false, take}
+use Rattle.std.proofs.Common.{sym, subst, ℕ, ◌+◌, arith, List, [], ◌∷◌, Bool, true, false, take}
 use Rattle.std.specs.Prelude.{◌==◌, if◌then◌else◌}
 use Rattle.ceu_base.specs.declared.kinds.Pos.{Pos}
 use Rattle.ceu_lex.specs.declared.token.Token.{Token}

@@ -1,5 +1,5 @@
 -- The kernel of a program that breaks no rule on names and types is proper.
-use Rattle.std.proofs.Common.{◌≡◌, List, Ok}
+use Rattle.std.proofs.Common.{◌≡◌, Ok}
 use Rattle.ceu_tree.specs.declared.source.Tree.{Tree}
 use Rattle.ceu_tree.specs.Proper.{Proper}
 use Rattle.ceu_scopes.specs.declared.known.Scopes.{Scopes}
@@ -21,14 +21,17 @@ use Rattle.ceu_seen.proofs.Whole.{sees}
 use Rattle.ceu_settled.proofs.Waiting.{tree_ends}
 use Rattle.ceu_settled.proofs.Whole.{settles}
 use Rattle.ceu_typed.specs.Times.{TreeTimed}
-use Rattle.ceu_typed.specs.Typed.{KernelTyped}
+use Rattle.ceu_typed.specs.Laws.{KernelsTyped}
 use Rattle.ceu_named.proofs.Whole.{named}
 use Rattle.ceu_kernels.proofs.Fitting.{fits}
 
-pub proper : (tree : Tree) (s : Scopes) (t : Types) → scopes_of tree ≡ Ok s → types_of s tree ≡ Ok t.exps → TreePlaced tree → TreeNamed tree → KernelTyped (kernel_of s t tree) → Proper (kernel_of s t tree)
-proper tree s t h k place name typed =
+types_fit : KernelsTyped
+types_fit = ?
+
+pub proper : (tree : Tree) (s : Scopes) (t : Types) → scopes_of tree ≡ Ok s → types_of s tree ≡ Ok t.exps → TreePlaced tree → TreeNamed tree → TreeTimed tree → Proper (kernel_of s t tree)
+proper tree s t h k place name time =
     let outermost = codes_outermost tree s h in
     let outer = tree_outer tree s h in
     let stood = stands s t tree outermost t.exps k in
-    fits (kernel_of s t tree) (numbered s t tree outermost) (ports s t tree outer s h name) (events s t tree outermost) (shaped s t tree place) (above s t tree outermost outer h) stood (sees s t tree outermost h) typed (named s t tree outermost h stood)
+    fits (kernel_of s t tree) (numbered s t tree outermost) (ports s t tree outer s h name) (events s t tree outermost) (shaped s t tree place) (above s t tree outermost outer h) stood (sees s t tree outermost h) (types_fit tree s t h k time) (named s t tree outermost h stood)
     (settles s t tree outermost (tree_ends s t tree t.exps k) h)
