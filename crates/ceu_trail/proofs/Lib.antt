@@ -1,0 +1,9 @@
+pub mod Cuts
+pub mod Singles
+pub mod Pieces
+pub mod Codes
+pub mod Gates
+pub mod Planned
+pub mod Rising
+pub mod Stops
+pub mod Plain

@@ -1,0 +1,10 @@
+pub mod Tables
+pub mod Built
+pub mod Compiled
+pub mod Within
+pub mod Turning
+pub mod Coming
+pub mod Laws
+pub mod Parts
+pub mod PartLaws
+pub mod Plain
