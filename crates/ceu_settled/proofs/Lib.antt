@@ -1,0 +1,14 @@
+pub mod Absent
+pub mod Sets
+pub mod Knowing
+pub mod Passing
+pub mod Parts
+pub mod Single
+pub mod Blocks
+pub mod Ranges
+pub mod Waiting
+pub mod Same
+pub mod Naming
+pub mod Tables
+pub mod Codes
+pub mod Whole
