@@ -36,7 +36,7 @@ use Rattle.ceu_codegen.proofs.Scopes.{SeenBelow, declared_below, alias_below, po
 
 -- ---- the nodes of parts
 
-block_below : (nodes : ℕ) (b : KBlock) → AreNodes nodes (block_nodes b) → node_of_block b < nodes
+pub block_below : (nodes : ℕ) (b : KBlock) → AreNodes nodes (block_nodes b) → node_of_block b < nodes
 unfolding stmt_nodes
 block_below nodes (KBlock' n ds x list) h = h.0
 

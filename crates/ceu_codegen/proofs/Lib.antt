@@ -13,3 +13,4 @@ pub mod Counts
 pub mod Whole
 pub mod Parts
 pub mod Ended
+pub mod Imaged

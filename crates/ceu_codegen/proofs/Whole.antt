@@ -58,7 +58,7 @@ all_numbers K =
     map-append (λ (r : GateRange). r.node) (block_ranges table 0 K.body) (codes_ranges [] K.codes)
     ∙ ap (λ (l : List ℕ). l ++ numbers (codes_ranges [] K.codes)) (block_numbers table 0 K.body) ∙ ap (λ (l : List ℕ). block_nodes K.body ++ l) (codes_numbers [] K.codes)
 
-pick : {X : Type 0} (t : Bool) (a b : X) → t ≡ true → (if t then a else b) ≡ a
+pub pick : {X : Type 0} (t : Bool) (a b : X) → t ≡ true → (if t then a else b) ≡ a
 pick true a b e = refl
 pick false a b e = cc
 
@@ -229,7 +229,7 @@ module _ (K : Kernel) (p : Planned) (g : GatePlan) (ok : Proper K) (law : Lawful
   all_slots : AreNodes p.slot_count (block_slots K.body ++ codes_slots K.codes)
   all_slots = are_counted 0 (block_slots K.body ++ codes_slots K.codes) p.slot_count tests.slots (omega (arith, law.slots_counted))
 
-  all_nodes : AreNodes (length g.first) (block_nodes K.body ++ codes_nodes K.codes)
+  pub all_nodes : AreNodes (length g.first) (block_nodes K.body ++ codes_nodes K.codes)
   all_nodes = are_counted 0 (block_nodes K.body ++ codes_nodes K.codes) (length g.first) tests.nodes (omega (arith, firsts.one_each))
 
   codes_have : CodesEach (OwnFits p g K) K.codes × KnownBelow K names p g (0 + length K.codes) (gates_from [] K.codes)

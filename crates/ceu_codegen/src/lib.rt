@@ -4,6 +4,7 @@
 mod blocks;
 mod bodies;
 mod expressions;
+mod image;
 mod labels;
 mod own;
 mod pools;
@@ -11,4 +12,5 @@ mod statement;
 mod words;
 
 pub use bodies::lower_kernel;
+pub use image::generate;
 pub use pools::{Pool, pools_of};
