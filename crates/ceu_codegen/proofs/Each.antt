@@ -1,6 +1,5 @@
 -- In a proper kernel each block has its gates: its finalizers and the places of its pools lie among the gates of the plan.
-use Rattle.std.proofs.Common.{◌≡◌, refl, sym, ap, subst, ◌∙◌, ℕ, zero, suc, ◌+◌, ◌*◌, ◌<◌, ◌≤◌, max, Bool, true, false, ◌&&◌, ◌⊎◌, inl, inr, IsTrue, List, [], ◌∷◌, ◌++◌, length, nat_le, Option, Some, None, arith, append_assoc}
-use Rattle.std.specs.Prelude.{nat_lt, slice_index}
+use Rattle.std.proofs.Common.{◌≡◌, refl, sym, ap, subst, ◌∙◌, ℕ, zero, suc, ◌+◌, ◌*◌, ◌<◌, ◌≤◌, max, Bool, true, false, ◌&&◌, ◌⊎◌, inl, inr, IsTrue, List, [], ◌∷◌, ◌++◌, length, nat_le, Option, Some, None, arith}
 use Rattle.std.specs.List.{list_all}
 use Rattle.ceu_base.specs.declared.kinds.Ty.TheVariants as ty
 use Rattle.ceu_tree.specs.declared.kernel.Kernel.{Kernel}
@@ -25,7 +24,7 @@ use Rattle.ceu_gates.specs.Ranges.{range, starts, stmt_ranges, block_ranges, arm
 use Rattle.ceu_gates.proofs.Tests.{both_left, both_right}
 use Rattle.ceu_slots.specs.Plans.{Planned}
 use Rattle.ceu_shape.specs.Searches.{body_node}
-use Rattle.ceu_shape.specs.Shape.{pool_gates, pools_gates, own_gates}
+use Rattle.ceu_shape.specs.Shape.{pool_gates, pools_gates}
 use Rattle.ceu_low_par.specs.Conditions.{AreNodes}
 use Rattle.ceu_codegen.specs.Conditions.{planned, PoolFits, PoolsFit, OwnFits}
 
@@ -183,9 +182,10 @@ module _ (K : Kernel) (names : List (List ℕ)) (p : Planned) (g : GatePlan) (ta
       stmt_each sc n first (Do t b) e ok low inside = block_each (with_aim (do_aim K n t) sc) first b e (both_right (outside_finalizers sc.place && _) _ ok) low inside
       stmt_each sc n first (If' _ arms last) e ok low inside =
           let parts = both_left (outside_finalizers sc.place && arms_ok K names sc arms) _ ok in
-          let l = are_append p.slot_count (arms_slots arms) (block_slots last) low in
-          (arms_each sc first arms e (both_right (outside_finalizers sc.place) _ parts) l.0 (λ r h. inside r (among_left (arms_ranges table first arms) (block_ranges table first last) r h)),
-           block_each sc first last e (both_right (outside_finalizers sc.place && arms_ok K names sc arms) _ ok) l.1 (λ r h. inside r (among_right (arms_ranges table first arms) (block_ranges table first last) r h)))
+          let l = are_append p.slot_count (arms_slots arms) (block_slots last) low in (
+            arms_each sc first arms e (both_right (outside_finalizers sc.place) _ parts) l.0 (λ r h. inside r (among_left (arms_ranges table first arms) (block_ranges table first last) r h)),
+            block_each sc first last e (both_right (outside_finalizers sc.place && arms_ok K names sc arms) _ ok) l.1 (λ r h. inside r (among_right (arms_ranges table first arms) (block_ranges table first last) r h)),
+          )
       stmt_each sc n first (Loop k b) e ok low inside =
           block_each (with_aim (LoopAim n) (with_turns K k sc)) first b (turns_code k sc ∙ e) (both_right (outside_finalizers sc.place && loop_ok K sc k) _ ok)
           (are_append p.slot_count (loop_slots k) (block_slots b) low).1 inside
@@ -197,9 +197,10 @@ module _ (K : Kernel) (names : List (List ℕ)) (p : Planned) (g : GatePlan) (ta
       block_each sc first (KBlock' n ds x list) e ok low inside =
           let decls = both_left (list_all (decl_ok K sc) ds) _ (both_left (list_all (decl_ok K sc) ds && all_set names ds list) _ ok) in
           let l = are_append p.slot_count (decl_slots ds) (list_slots list) low in
-          let own = range n first (max 1 (nodes_finalizers list + need.pools_gates table ds + nodes_gates table list)) in
-          (own_fits sc n first ds (nodes_finalizers list) (nodes_gates table list) e decls l.0 (held own (inside own (inl refl))),
-           nodes_each (with_decls ds sc) first (first + (nodes_finalizers list + need.pools_gates table ds)) list e (both_right (list_all (decl_ok K sc) ds && all_set names ds list) _ ok) l.1 (λ r h. inside r (inr h)))
+          let own = range n first (max 1 (nodes_finalizers list + need.pools_gates table ds + nodes_gates table list)) in (
+            own_fits sc n first ds (nodes_finalizers list) (nodes_gates table list) e decls l.0 (held own (inside own (inl refl))),
+            nodes_each (with_decls ds sc) first (first + (nodes_finalizers list + need.pools_gates table ds)) list e (both_right (list_all (decl_ok K sc) ds && all_set names ds list) _ ok) l.1 (λ r h. inside r (inr h)),
+          )
 
       arm_each : (sc : Scope) (first : ℕ) (a : KArm) → sc.code ≡ code → IsTrue (arm_ok K names sc a) → AreNodes p.slot_count (arm_slots a) → Inside (arm_ranges table first a) → ArmEach (OwnFits p g K) a
       arm_each sc first (KArm' c b) e ok low inside = block_each sc first b e (both_right (gives K sc ty.Bool c) _ ok) low inside
@@ -211,16 +212,18 @@ module _ (K : Kernel) (names : List (List ℕ)) (p : Planned) (g : GatePlan) (ta
           let here = both_right (nat_le 1 q.line && nat_le 1 q.col) _ (both_left (nat_le 1 q.line && nat_le 1 q.col && stmt_ok K names sc n s) _ ok) in
           let l = are_append p.slot_count (stmt_slots s) (list_slots rest) low in
           let own = stmt_ranges table (starts finalizer first s) s in
-          let more = nodes_ranges table (finalizer + finalizers s) first rest in
-          (stmt_each sc n (starts finalizer first s) s e here l.0 (λ r h. inside r (inr (among_left own more r h))),
-           nodes_each sc (finalizer + finalizers s) first rest e (both_right (nat_le 1 q.line && nat_le 1 q.col && stmt_ok K names sc n s) _ ok) l.1 (λ r h. inside r (inr (among_right own more r h))))
+          let more = nodes_ranges table (finalizer + finalizers s) first rest in (
+            stmt_each sc n (starts finalizer first s) s e here l.0 (λ r h. inside r (inr (among_left own more r h))),
+            nodes_each sc (finalizer + finalizers s) first rest e (both_right (nat_le 1 q.line && nat_le 1 q.col && stmt_ok K names sc n s) _ ok) l.1 (λ r h. inside r (inr (among_right own more r h))),
+          )
 
       arms_each : {n : _} (sc : Scope) (first : ℕ) (r : Row_of-KArm n) → sc.code ≡ code → IsTrue (arms_ok K names sc r) → AreNodes p.slot_count (arms_slots r) → Inside (arms_ranges table first r) → ArmsEach (OwnFits p g K) r
       arms_each sc first end_of-KArm e ok low inside = tt
       arms_each sc first (more_of-KArm a rest) e ok low inside =
-          let l = are_append p.slot_count (arm_slots a) (arms_slots rest) low in
-          (arm_each sc first a e (both_left (arm_ok K names sc a) _ ok) l.0 (λ r h. inside r (among_left (arm_ranges table first a) (arms_ranges table first rest) r h)),
-           arms_each sc first rest e (both_right (arm_ok K names sc a) _ ok) l.1 (λ r h. inside r (among_right (arm_ranges table first a) (arms_ranges table first rest) r h)))
+          let l = are_append p.slot_count (arm_slots a) (arms_slots rest) low in (
+            arm_each sc first a e (both_left (arm_ok K names sc a) _ ok) l.0 (λ r h. inside r (among_left (arm_ranges table first a) (arms_ranges table first rest) r h)),
+            arms_each sc first rest e (both_right (arm_ok K names sc a) _ ok) l.1 (λ r h. inside r (among_right (arm_ranges table first a) (arms_ranges table first rest) r h)),
+          )
 
       blocks_each : {n : _} (sc : Scope) (first : ℕ) (r : Row_of-KBlock n) → sc.code ≡ code → IsTrue (blocks_ok K names sc r) → AreNodes p.slot_count (blocks_slots r) → Inside (blocks_ranges table first r) →
           BlocksEach (OwnFits p g K) r
@@ -228,6 +231,7 @@ module _ (K : Kernel) (names : List (List ℕ)) (p : Planned) (g : GatePlan) (ta
       blocks_each sc first (more_of-KBlock b rest) e ok low inside =
           let l = are_append p.slot_count (block_slots b) (blocks_slots rest) low in
           let own = block_ranges table first b in
-          let more = blocks_ranges table (first + block_gates table b) rest in
-          (block_each sc first b e (both_left (block_ok K names sc b) _ ok) l.0 (λ r h. inside r (among_left own more r h)),
-           blocks_each sc (first + block_gates table b) rest e (both_right (block_ok K names sc b) _ ok) l.1 (λ r h. inside r (among_right own more r h)))
+          let more = blocks_ranges table (first + block_gates table b) rest in (
+            block_each sc first b e (both_left (block_ok K names sc b) _ ok) l.0 (λ r h. inside r (among_left own more r h)),
+            blocks_each sc (first + block_gates table b) rest e (both_right (block_ok K names sc b) _ ok) l.1 (λ r h. inside r (among_right own more r h)),
+          )

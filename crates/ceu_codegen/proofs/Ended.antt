@@ -1,5 +1,5 @@
 -- Bodies, and the whole kernel, from what the calls of the generator add.
-use Rattle.std.proofs.Common.{◌≡◌, refl, sym, ap, subst, ◌∙◌, ℕ, ◌+◌, ◌*◌, ◌<◌, ◌≤◌, List, [], ◌∷◌, ◌++◌, length, arith, append_assoc}
+use Rattle.std.proofs.Common.{◌≡◌, sym, ap, subst, ◌∙◌, ℕ, ◌+◌, ◌*◌, ◌≤◌, List, [], ◌∷◌, ◌++◌, arith}
 use Rattle.ceu_base.specs.declared.kinds.Pos.{Pos}
 use Rattle.ceu_tree.specs.declared.kernel.Kernel.{Kernel}
 use Rattle.ceu_tree.specs.declared.kernel.KCode.{KCode}
@@ -9,16 +9,16 @@ use Rattle.ceu_tree.specs.Weight.{block_weight, code_weight, weight}
 use Rattle.ceu_asm.specs.declared.line.Line.{Line}
 use Rattle.ceu_asm.specs.Pages.{Page}
 use Rattle.ceu_shape.specs.Plans.{Plan, end_label}
-use Rattle.ceu_shape.specs.Pieces.{Draft, Added, both, text, with_places, numbered}
+use Rattle.ceu_shape.specs.Pieces.{Added, text, numbered}
 use Rattle.ceu_shape.specs.Words.{mark}
 use Rattle.ceu_shape.specs.Searches.{node_of_block}
-use Rattle.ceu_shape.specs.Shape.{block_draft, body_draft, code_draft, program_draft, kernel_draft, first_fresh, kernel_piece, shape_lines, shape_positions}
+use Rattle.ceu_shape.specs.Shape.{block_draft, body_draft, code_draft, kernel_draft, first_fresh, kernel_piece, shape_lines, shape_positions}
 use Rattle.ceu_shape.proofs.Adding.{added_text, added_both}
 use Rattle.ceu_shape.proofs.Expressed.{IsSmall}
 use Rattle.ceu_low_expr.specs.Conditions.{HasRoom}
 use Rattle.ceu_codegen.proofs.Levels.{node_is}
 use Rattle.ceu_codegen.proofs.Small.{block_small, small_then, small_more}
-use Rattle.ceu_codegen.proofs.Walks.{with_lines, lined_both, room_after}
+use Rattle.ceu_codegen.proofs.Walks.{with_lines, lined_both}
 
 -- ---- a body
 

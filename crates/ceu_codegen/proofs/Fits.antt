@@ -1,13 +1,12 @@
 -- In a proper kernel whose blocks have their gates, all that its statements name is there.
-use Rattle.std.proofs.Common.{◌≡◌, refl, sym, ap, subst, ◌∙◌, ℕ, zero, suc, ◌+◌, ◌*◌, ◌<◌, ◌≤◌, Bool, true, false, not, ◌&&◌, ◌==◌, if◌then◌else◌, IsTrue, nat_le, List, [], ◌∷◌, ◌++◌, length, Option, Some, None, arith, append_assoc}
-use Rattle.std.specs.List.{list_all, list_any}
+use Rattle.std.proofs.Common.{◌≡◌, refl, ap, subst, ℕ, zero, suc, ◌+◌, ◌<◌, ◌≤◌, Bool, true, ◌&&◌, ◌==◌, IsTrue, nat_le, List, [], ◌∷◌, ◌++◌, length, Option, Some, None, arith, append_assoc}
+use Rattle.std.specs.List.{list_all}
 use Rattle.std.proofs.lemmas.Bool.{and_parts, leb-true}
 use Rattle.ceu_base.specs.declared.kinds.Ty.{Ty}
 use Rattle.ceu_base.specs.declared.kinds.Ty.TheVariants as ty
 use Rattle.ceu_tree.specs.declared.kernel.Kernel.{Kernel}
 use Rattle.ceu_tree.specs.declared.kernel.KCode.{KCode}
 use Rattle.ceu_tree.specs.declared.kernel.KDecl.{KDecl}
-use Rattle.ceu_tree.specs.declared.kernel.KKind.TheVariants as kind
 use Rattle.ceu_tree.specs.declared.kernel.KLoop.{KLoop}
 use Rattle.ceu_tree.specs.declared.kernel.KLoop.TheVariants as turns
 use Rattle.ceu_tree.specs.declared.kernel.Loc.{Loc}
@@ -21,16 +20,16 @@ use Rattle.ceu_tree.specs.Mentions.{all_set}
 use Rattle.ceu_tree.specs.Needs.{nodes_finalizers}
 use Rattle.ceu_tree.specs.Numbering.{decl_slots, loop_slots, par_slots, range_of, row_length, stmt_slots, block_slots, arm_slots, list_slots, arms_slots, blocks_slots, stmt_nodes, block_nodes, arm_nodes, list_nodes, blocks_nodes}
 use Rattle.ceu_tree.specs.Numbering as numbering
-use Rattle.ceu_tree.specs.Proper.{Scope, Aim, LoopAim, BodyAim, is_trail, outside_asyncs, outside_finalizers, find, declared_seen, is_alias, is_pool_of, alias_takes, pool_slots, pools_seen, on_ty, on_code, port_ty, event_at, event_seen, takes, takes_if, gives, gives_if, gives_all, time_ok, loop_ok, par_ok, escape_ok, is_loop_aim, with_decls, with_turns, with_aim, do_aim, in_async, in_finalizer, decl_ok, stmt_ok, block_ok, arm_ok, nodes_ok, arms_ok, blocks_ok}
+use Rattle.ceu_tree.specs.Proper.{Scope, LoopAim, is_trail, outside_asyncs, outside_finalizers, find, declared_seen, is_alias, is_pool_of, alias_takes, pool_slots, pools_seen, on_ty, on_code, port_ty, event_at, event_seen, takes, takes_if, gives, gives_if, gives_all, time_ok, loop_ok, par_ok, with_decls, with_turns, with_aim, do_aim, in_async, in_finalizer, decl_ok, stmt_ok, block_ok, arm_ok, nodes_ok, arms_ok, blocks_ok}
 use Rattle.ceu_gates.specs.declared.plan.GatePlan.{GatePlan}
 use Rattle.ceu_slots.specs.Plans.{Planned}
 use Rattle.ceu_shape.specs.Searches.{node_of_block, pool_size, escape_target}
-use Rattle.ceu_shape.specs.Shape.{arm_block, branch_nodes}
+use Rattle.ceu_shape.specs.Shape.{branch_nodes}
 use Rattle.ceu_low_flow.specs.Conditions as flow
 use Rattle.ceu_low_pool.specs.Conditions as on_code
 use Rattle.ceu_low_par.specs.Conditions as side
 use Rattle.ceu_low_par.specs.Conditions.{AreNodes}
-use Rattle.ceu_codegen.specs.Conditions.{planned, arms_nodes, part_nodes, LeavesBelow, NodeFits, NamesIf, AllName, TurnsName, OwnFits, PartsFit, BlockFits, ArmFits, NodesFit, ArmsFit, BlocksFit}
+use Rattle.ceu_codegen.specs.Conditions.{arms_nodes, NodeFits, TurnsName, OwnFits, PartsFit, BlockFits, ArmFits, NodesFit, ArmsFit, BlocksFit}
 use Rattle.ceu_codegen.proofs.Each.{StmtEach, BlockEach, ArmEach, NodesEach, ArmsEach, BlocksEach, are_append, used_there}
 use Rattle.ceu_codegen.proofs.Scopes.{SeenBelow, declared_below, alias_below, pool_below, set_below, takes_below, target_fits, result_fits, gives_names, gives_if_names, gives_all_names, time_names, escape_names, some_ty, port_below, event_below, some_code, AimsBelow, do_below, escape_below, loop_below}
 
@@ -139,14 +138,26 @@ module _ (K : Kernel) (names : List (List ℕ)) (p : Planned) (g : GatePlan) (ou
       let f = λ (k : KCode). gives_all K sc k.params es && takes_if K sc k.result t in
       let x : IsTrue (on_code K sc c f) = (and_parts (is_trail sc.place) _ ok).1 in
       let k = some_code (code_at c K.codes) f (and_parts _ _ x).1 in
-      record { node = h; parts = tt; left = tt; flow = tt; side = tt;
-        on_code = record { code_there = used_there K sc c f x; frame_there = ss.0; target_there = result_fits slots K outer sc k.0.result t i.seen (and_parts (gives_all K sc k.0.params es) (takes_if K sc k.0.result t) k.1).1 } }
+      record {
+        node = h;
+        parts = tt;
+        left = tt;
+        flow = tt;
+        side = tt;
+        on_code = record { code_there = used_there K sc c f x; frame_there = ss.0; target_there = result_fits slots K outer sc k.0.result t i.seen (and_parts (gives_all K sc k.0.params es) (takes_if K sc k.0.result t) k.1).1 };
+      }
   node_fits sc n (Spawn c es pool alias) i h ok ns ss =
       let f = λ (k : KCode). gives_all K sc k.params es in
       let x = and_parts (is_trail sc.place && on_code K sc c f && is_pool_of c (find pool sc.seen)) _ ok in
       let y = and_parts (is_trail sc.place && on_code K sc c f) (is_pool_of c (find pool sc.seen)) x.0 in
-      record { node = h; parts = tt; left = tt; flow = tt; side = tt;
-        on_code = record { code_there = used_there K sc c f (and_parts (is_trail sc.place) (on_code K sc c f) y.0).1; pool_there = pool_below slots K outer sc c pool i.seen y.1; pool_small = sizes pool; alias_there = spawn_alias sc c pool alias i x.1 } }
+      record {
+        node = h;
+        parts = tt;
+        left = tt;
+        flow = tt;
+        side = tt;
+        on_code = record { code_there = used_there K sc c f (and_parts (is_trail sc.place) (on_code K sc c f) y.0).1; pool_there = pool_below slots K outer sc c pool i.seen y.1; pool_small = sizes pool; alias_there = spawn_alias sc c pool alias i x.1 };
+      }
   node_fits sc n (Kill c) i h ok ns ss =
       record { node = h; parts = tt; left = tt; flow = tt; side = tt; on_code = alias_below slots K outer sc c i.seen (and_parts (is_trail sc.place) (is_alias (find c sc.seen)) ok).1 }
   node_fits sc n (Unset c) i h ok ns ss =

@@ -1,5 +1,5 @@
 -- The image of a kernel, from the tables that are made and the lines that are assembled.
-use Rattle.std.proofs.Common.{◌≡◌, refl, sym, ap, subst, ◌∙◌, ℕ, ◌+◌, ◌*◌, ◌<◌, ◌≤◌, Bool, true, false, if◌then◌else◌, List, [], ◌∷◌, ◌++◌, length, map, arith}
+use Rattle.std.proofs.Common.{◌≡◌, refl, ap, ◌∙◌, ℕ, ◌<◌, ◌≤◌, List, [], ◌∷◌, ◌++◌, length, map, arith}
 use Rattle.std.specs.Prelude.{nat_lt}
 use Rattle.std.specs.List.{AllByRecursion}
 use Rattle.std.proofs.lemmas.Bool.{lt-ltb}
@@ -19,12 +19,12 @@ use Rattle.ceu_asm.specs.Lines.{marks, code_size, assembled}
 use Rattle.ceu_shape.specs.Plans.{Plan, own_label}
 use Rattle.ceu_shape.specs.Pieces.{numbered}
 use Rattle.ceu_shape.specs.Searches.{PoolRow, node_of_block, kernel_pools}
-use Rattle.ceu_shape.specs.Shape.{kernel_draft, first_fresh, kernel_piece, shape_lines, shape_positions, code_rows, pool_code, shape}
+use Rattle.ceu_shape.specs.Shape.{first_fresh, kernel_piece, shape_lines, shape_positions, code_rows, pool_code, shape}
 use Rattle.ceu_placed.proofs.MarkedParts.{kernel_adds}
 use Rattle.ceu_placed.proofs.Whole.{mark_each}
 use Rattle.ceu_low_par.specs.Conditions.{AreNodes}
 use Rattle.ceu_codegen.specs.declared.pools.Pool.{Pool}
-use Rattle.ceu_codegen.specs.Images.{HasCode, CodesMarked}
+use Rattle.ceu_codegen.specs.Images.{CodesMarked}
 use Rattle.ceu_codegen.specs.Pools.{as_pool}
 use Rattle.ceu_codegen.proofs.Each.{are_append}
 use Rattle.ceu_codegen.proofs.Fits.{block_below}

@@ -1,8 +1,7 @@
 -- A statement with its parts and a block, from what the calls of the generator add.
-use Rattle.std.proofs.Common.{◌≡◌, refl, sym, ap, subst, ◌∙◌, ℕ, zero, suc, ◌+◌, ◌*◌, ◌<◌, ◌≤◌, List, [], ◌∷◌, ◌++◌, length, arith}
+use Rattle.std.proofs.Common.{◌≡◌, sym, ap, subst, ◌∙◌, ℕ, ◌+◌, ◌*◌, ◌<◌, ◌≤◌, List, [], ◌∷◌, ◌++◌, arith}
 use Rattle.ceu_tree.specs.declared.kernel.Kernel.{Kernel}
 use Rattle.ceu_tree.specs.declared.kernel.KNode.{KNode}
-use Rattle.ceu_tree.specs.declared.kernel.KDecl.{KDecl}
 use Rattle.ceu_tree.specs.declared.kernel.KBlock.{KBlock, out-KBlock}
 use Rattle.ceu_tree.specs.declared.kernel.KStmt.{KStmt, Escape, Break, Continue}
 use Rattle.ceu_tree.specs.Greatest.{total}
@@ -12,7 +11,7 @@ use Rattle.ceu_asm.specs.declared.line.Line.{Line}
 use Rattle.ceu_asm.specs.declared.line.Labels.{Labels}
 use Rattle.ceu_asm.specs.Pages.{Page}
 use Rattle.ceu_shape.specs.Plans.{Plan, end_label}
-use Rattle.ceu_shape.specs.Pieces.{Draft, Added, both, text, taking}
+use Rattle.ceu_shape.specs.Pieces.{Draft, Added, both, text}
 use Rattle.ceu_shape.specs.Words.{mark, goto}
 use Rattle.ceu_shape.specs.Searches.{node_of_block}
 use Rattle.ceu_shape.specs.Shape.{expression_count, labels_of, node_draft, parts_draft, block_draft}
@@ -51,7 +50,7 @@ module _ (P : Plan) (K : Kernel) where
       let from : 0 < expression_count x.stmt → r ≡ s0.labels = λ h. first (omega arith) in
       let f : ℕ → Draft = λ fresh. both (node_draft P K x.node x.pos x.stmt (labels_of fresh x.node x.stmt)) (both (parts_draft P K x.stmt fresh) (text (mark (end_label x.node) ∷ []))) in
       let a : Added s1 s2 (node_draft P K x.node x.pos x.stmt (labels_of s0.labels x.node x.stmt)) =
-          subst (λ (l : Labels). Added s1 s2 (node_draft P K x.node x.pos x.stmt l)) (are ∙ labels_fresh x.node x.stmt r s0.labels from) own in
+      subst (λ (l : Labels). Added s1 s2 (node_draft P K x.node x.pos x.stmt l)) (are ∙ labels_fresh x.node x.stmt r s0.labels from) own in
       let b : Added s2 s3 (parts_draft P K x.stmt s0.labels) = subst (λ (d : Draft). Added s2 s3 d) (parts_fresh P K x.stmt r s0.labels from) parts in
       added_taking s0 s1 s4 (2 * expression_count x.stmt) f given
       (added_both s1 s2 s4 (node_draft P K x.node x.pos x.stmt (labels_of s0.labels x.node x.stmt)) (both (parts_draft P K x.stmt s0.labels) (text (mark (end_label x.node) ∷ []))) a

@@ -1,18 +1,13 @@
 -- How many labels the parts of a statement have, by the kind of the statement.
-use Rattle.std.proofs.Common.{◌≡◌, refl, sym, ap, subst, ◌∙◌, ℕ, zero, suc, ◌+◌, ◌-◌, ◌*◌, ◌<◌, ◌≤◌, List, [], ◌∷◌, ◌++◌, length, arith, append_assoc, length-append, Option, Some, None}
-use Rattle.ceu_tree.specs.declared.kernel.KExp.{KExp}
-use Rattle.ceu_tree.specs.declared.kernel.KLoop.{KLoop}
-use Rattle.ceu_tree.specs.declared.kernel.KLoop.TheVariants as turns
+use Rattle.std.proofs.Common.{◌≡◌, sym, ap, ◌∙◌, ℕ, zero, suc, ◌+◌, ◌-◌, ◌*◌, ◌<◌, ◌≤◌, List, [], ◌∷◌, ◌++◌, length, arith, append_assoc, length-append}
 use Rattle.ceu_tree.specs.declared.kernel.ParKind.TheVariants as par
-use Rattle.ceu_tree.specs.declared.kernel.KBlock.{KBlock}
 use Rattle.ceu_tree.specs.declared.kernel.KStmt.{KStmt, Row_of-KArm, end_of-KArm, more_of-KArm, Row_of-KBlock, end_of-KBlock, more_of-KBlock, Nothing, Assign, Out, Emit, AwaitIn, AwaitTime, AwaitEvent, Forever, AwaitCode, Spawn, Kill, Unset, Async, Finalize, Do, Escape, Break, Continue, If', Loop, Par'}
-use Rattle.ceu_shape.specs.Shape.{count_if, arm_count, branch_nodes, ends_count, expression_count, expression_labels, block_labels, arm_block, arms_labels, branches_labels, part_labels}
+use Rattle.ceu_shape.specs.Shape.{count_if, arm_count, branch_nodes, ends_count, expression_labels, block_labels, arms_labels, branches_labels, part_labels}
 use Rattle.ceu_low_flow.specs.Bounds.{arms_of}
 use Rattle.ceu_low_flow.specs.Conditions as flow
 use Rattle.ceu_low_pool.specs.Conditions as on_code
 use Rattle.ceu_low_par.specs.Conditions as side
 use Rattle.ceu_low_async.specs.Conditions as later
-use Rattle.ceu_codegen.specs.declared.statement.Lowered.{Lowered}
 use Rattle.ceu_codegen.specs.declared.statement.Lowered.TheVariants as by
 use Rattle.ceu_codegen.specs.Kinds.{lowered_by, parts_counted}
 

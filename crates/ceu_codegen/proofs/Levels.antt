@@ -1,8 +1,7 @@
 -- One level of the drafts, the conditions and the room of a statement's parts, as the code builds it, and blocks by the lists that the code sees.
-use Rattle.std.proofs.Common.{◌≡◌, refl, sym, ap, subst, ◌∙◌, ℕ, suc, zero, ◌+◌, ◌*◌, List, [], ◌∷◌, ◌++◌, length}
+use Rattle.std.proofs.Common.{◌≡◌, refl, sym, ap, subst, ◌∙◌, ℕ, suc, zero, ◌+◌, List, ◌∷◌, ◌++◌}
 use Rattle.ceu_tree.specs.declared.kernel.Kernel.{Kernel}
 use Rattle.ceu_tree.specs.declared.kernel.KDecl.{KDecl}
-use Rattle.ceu_tree.specs.declared.kernel.KExp.{KExp}
 use Rattle.ceu_tree.specs.declared.kernel.KNode.{KNode}
 use Rattle.ceu_tree.specs.declared.kernel.KArm.{KArm, KArm', out-KArm}
 use Rattle.ceu_tree.specs.declared.kernel.KBlock.{KBlock, KBlock', out-KBlock, Row_of-KNode, end_of-KNode, more_of-KNode, items-the_row-KNode, items_shown-the_row-KNode-2}
@@ -15,14 +14,13 @@ use Rattle.ceu_tree.specs.Weight.{stmt_weight, block_weight, blocks_weight, bran
 use Rattle.ceu_asm.specs.declared.line.Line.{Line}
 use Rattle.ceu_gates.specs.declared.plan.GatePlan.{GatePlan}
 use Rattle.ceu_slots.specs.Plans.{Planned}
-use Rattle.ceu_shape.specs.Plans.{Plan, own_label, end_label}
-use Rattle.ceu_shape.specs.Pieces.{Draft, both, nothing, text}
-use Rattle.ceu_shape.specs.Words.{mark, plain, goto}
+use Rattle.ceu_shape.specs.Plans.{Plan, own_label}
+use Rattle.ceu_shape.specs.Pieces.{Draft, both, text}
+use Rattle.ceu_shape.specs.Words.{mark}
 use Rattle.ceu_shape.specs.Searches.{node_of_block}
 use Rattle.ceu_shape.specs.Shape.{arm_block, arms_labels, branches_labels, block_labels, move_lines, block_begin, block_end, with_parts, parts_draft, block_draft, arm_parts, nodes_draft, arms_parts, blocks_parts, to_end, exp_part, own_gates, pool_lines, abort_own}
 use Rattle.ceu_low_expr.specs.Conditions.{NamesBelow}
-use Rattle.ceu_low_par.specs.Conditions.{nodes_of}
-use Rattle.ceu_codegen.specs.Conditions.{NodeFits, OwnFits, PartsFit, BlockFits, ArmFits, NodesFit, ArmsFit, BlocksFit, arms_nodes}
+use Rattle.ceu_codegen.specs.Conditions.{OwnFits, PartsFit, BlockFits, ArmFits, NodesFit, ArmsFit, BlocksFit, arms_nodes}
 use Rattle.ceu_codegen.specs.Rooms.{arm_room, arms_room, parts_room}
 use Rattle.ceu_codegen.specs.Lists.{arm_list_labels, block_list_labels, nodes_of_arms, one_draft, node_list_draft, arm_list_draft, block_list_draft, move_list, begin_list, end_list, NodeListFits, ArmListFits, BlockListFits}
 use denote.Hole.Carrier

@@ -1,5 +1,5 @@
 -- What a scope of a proper kernel sees and leaves is there: slots and nodes below their counts.
-use Rattle.std.proofs.Common.{◌≡◌, refl, sym, ap, subst, ◌∙◌, ℕ, zero, suc, ◌+◌, ◌*◌, ◌<◌, ◌≤◌, Bool, true, false, not, ◌&&◌, ◌||◌, ◌==◌, if◌then◌else◌, List, [], ◌∷◌, ◌++◌, length, Option, Some, None, arith}
+use Rattle.std.proofs.Common.{◌≡◌, refl, ℕ, zero, suc, ◌<◌, Bool, true, false, not, ◌&&◌, ◌||◌, ◌==◌, if◌then◌else◌, List, [], ◌∷◌, length, Option, Some, None, arith}
 use Rattle.std.specs.List.{list_any}
 use Rattle.std.proofs.lemmas.Bool.{eqb-true, and_parts, false≢true}
 use Rattle.ceu_base.specs.declared.kinds.Ty.{Ty}
@@ -13,20 +13,17 @@ use Rattle.ceu_tree.specs.declared.kernel.KKind.TheVariants as kind
 use Rattle.ceu_tree.specs.declared.kernel.KEvent.{KEvent}
 use Rattle.ceu_tree.specs.declared.kernel.KExp.{KExp}
 use Rattle.ceu_tree.specs.declared.kernel.KExpNode.{KExpNode, Row_of-KExp, end_of-KExp, more_of-KExp, Const, Read, Alive, One', Two', As'}
-use Rattle.ceu_tree.specs.declared.kernel.KLoop.{KLoop}
-use Rattle.ceu_tree.specs.declared.kernel.KLoop.TheVariants as turns
 use Rattle.ceu_tree.specs.declared.kernel.Loc.{Loc}
 use Rattle.ceu_tree.specs.declared.kernel.Unit.{Unit as TimeUnit}
-use Rattle.ceu_tree.specs.declared.kernel.KBlock.{KBlock, KBlock', out-KBlock}
-use Rattle.ceu_tree.specs.Leaf.{code_at}
-use Rattle.ceu_tree.specs.Numbering.{decl_slots, loop_slots}
-use Rattle.ceu_tree.specs.Typing.{node_typed, operand_typed, typed, given, given_if, same_ty, holds_all, is_open}
-use Rattle.ceu_tree.specs.Proper.{SlotKind, IsVariable, IsLoopVariable, IsPool, IsAlias, Seen, Aim, DoAim, BodyAim, LoopAim, Scope, find, slot_kind, declared_seen, pool_slots, pools_seen, with_decls, with_turns, do_aim, variable_ty, has_ty, is_in_code, is_alias, alias_code, is_pool_of, alias_takes, outside_asyncs, is_loop_variable, looked_up, reads, asks, takes, takes_if, gives, gives_if, gives_all, port_ty, event_at, event_seen, on_ty, on_code, time_ok, escape_ok, is_loop_aim}
+use Rattle.ceu_tree.specs.declared.kernel.KBlock.{out-KBlock}
+use Rattle.ceu_tree.specs.Numbering.{decl_slots}
+use Rattle.ceu_tree.specs.Typing.{node_typed, operand_typed, typed, same_ty, holds_all}
+use Rattle.ceu_tree.specs.Proper.{SlotKind, Seen, Aim, DoAim, BodyAim, LoopAim, Scope, find, declared_seen, do_aim, variable_ty, has_ty, is_in_code, is_alias, is_pool_of, alias_takes, outside_asyncs, is_loop_variable, looked_up, reads, asks, takes, takes_if, gives, gives_if, gives_all, port_ty, event_at, event_seen, on_ty, time_ok, escape_ok, is_loop_aim}
 use Rattle.ceu_low_expr.specs.Conditions.{NodeNames, OperandNames, NamesBelow}
 use Rattle.ceu_low_flow.specs.Conditions as flow
 use Rattle.ceu_low_pool.specs.Conditions as on_code
 use Rattle.ceu_low_par.specs.Conditions.{AreNodes}
-use Rattle.ceu_codegen.specs.Conditions.{NamesIf, AllName, TurnsName}
+use Rattle.ceu_codegen.specs.Conditions.{NamesIf, AllName}
 
 -- ---- tests that choose
 
@@ -123,7 +120,7 @@ module _ (slots : ℕ) where
         node_names (One' op _ a) t h = operand_names a (and_parts (operand_typed (reads K sc) (asks K sc) a) _ h).0
         node_names (Two' op _ a _ b) t h =
             let x = and_parts (operand_typed (reads K sc) (asks K sc) a) (operand_typed (reads K sc) (asks K sc) b)
-                (and_parts (operand_typed (reads K sc) (asks K sc) a && operand_typed (reads K sc) (asks K sc) b) _ h).0 in
+            (and_parts (operand_typed (reads K sc) (asks K sc) a && operand_typed (reads K sc) (asks K sc) b) _ h).0 in
             (operand_names a x.0, operand_names b x.1)
         node_names (As' _ a) t h =
             operand_names a (and_parts (operand_typed (reads K sc) (asks K sc) a) (not (same_ty t ty.None)) (and_parts (operand_typed (reads K sc) (asks K sc) a && not (same_ty t ty.None)) _ h).0).0

@@ -1,5 +1,5 @@
 -- How many labels and positions the lines of a kernel take: at most as its weight.
-use Rattle.std.proofs.Common.{◌≡◌, refl, sym, ap, subst, ℕ, zero, suc, ◌+◌, ◌*◌, ◌<◌, ◌≤◌, List, [], ◌∷◌, ◌++◌, length, arith, length-append, Option, Some, None}
+use Rattle.std.proofs.Common.{ℕ, ◌+◌, ◌*◌, ◌≤◌, List, [], ◌∷◌, ◌++◌, length, arith, length-append, Option, Some, None}
 use Rattle.ceu_base.specs.declared.kinds.Pos.{Pos}
 use Rattle.ceu_tree.specs.declared.kernel.Kernel.{Kernel}
 use Rattle.ceu_tree.specs.declared.kernel.KExp.{KExp}
@@ -12,7 +12,7 @@ use Rattle.ceu_tree.specs.declared.kernel.KNode.{KNode}
 use Rattle.ceu_tree.specs.declared.kernel.KArm.{KArm, KArm'}
 use Rattle.ceu_tree.specs.declared.kernel.KStmt.{KStmt, Row_of-KArm, end_of-KArm, more_of-KArm, Row_of-KBlock, end_of-KBlock, more_of-KBlock, Nothing, Assign, Out, Emit, AwaitIn, AwaitTime, AwaitEvent, Forever, AwaitCode, Spawn, Kill, Unset, Async, Finalize, Do, Escape, Break, Continue, If', Loop, Par'}
 use Rattle.ceu_tree.specs.Greatest.{total}
-use Rattle.ceu_tree.specs.Weight.{node_count, exp_count, exp_weight, weight_if, loop_weight, stmt_weight, node_weight, block_weight, arm_weight, nodes_weight, arms_weight, blocks_weight}
+use Rattle.ceu_tree.specs.Weight.{node_count, exp_count, exp_weight, stmt_weight, node_weight, block_weight, nodes_weight, arms_weight, blocks_weight}
 use Rattle.ceu_asm.specs.declared.line.Line.{Line}
 use Rattle.ceu_asm.specs.declared.line.Labels.{Labels}
 use Rattle.ceu_shape.specs.Plans.{Plan, own_label, end_label}
@@ -174,8 +174,8 @@ module _ (P : Plan) (K : Kernel) where
       let f : ℕ → Draft = λ fresh. both (own fresh) (both (parts fresh) (text last)) in
       small_more (taking (2 * expression_count s) f) (expression_count s + ((1 + arms_of s) + parts_room s)) (48 + stmt_weight s) (omega (arith, stmt_needs s))
       (small_taking (expression_count s) f ((1 + arms_of s) + parts_room s) (λ fresh.
-          small_both (own fresh) (both (parts fresh) (text last)) (1 + arms_of s) (parts_room s) (node_small P K n p s (labels_of fresh n s))
-          (small_then (parts fresh) last (parts_room s) (h fresh))))
+      small_both (own fresh) (both (parts fresh) (text last)) (1 + arms_of s) (parts_room s) (node_small P K n p s (labels_of fresh n s))
+      (small_then (parts fresh) last (parts_room s) (h fresh))))
 
   end_small : (b : KBlock) (d : Draft) (m : ℕ) → IsSmall d m → IsSmall (to_end P K b d) m
   end_small b d m h = small_then d (goto (end_label (node_of_block b)) ∷ []) m h

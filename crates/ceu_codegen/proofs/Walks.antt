@@ -5,7 +5,7 @@ use Rattle.ceu_tree.specs.Greatest.{total}
 use Rattle.ceu_base.specs.declared.kinds.Pos.{Pos}
 use Rattle.ceu_asm.specs.declared.line.Line.{Line}
 use Rattle.ceu_asm.specs.Pages.{Page}
-use Rattle.ceu_shape.specs.Pieces.{Draft, Added, both, nothing, text}
+use Rattle.ceu_shape.specs.Pieces.{Draft, Added, both, nothing}
 use Rattle.ceu_shape.proofs.Adding.{added_nothing, added_both, placed_length}
 use Rattle.ceu_shape.proofs.Expressed.{IsSmall}
 use Rattle.ceu_low_expr.specs.Conditions.{HasRoom}

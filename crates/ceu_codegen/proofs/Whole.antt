@@ -1,6 +1,6 @@
 -- In a proper kernel with plans of its slots and gates all is there that its code names.
-use Rattle.std.proofs.Common.{◌≡◌, refl, sym, ap, subst, ◌∙◌, ℕ, zero, suc, ◌+◌, ◌*◌, ◌<◌, ◌≤◌, max, Bool, true, false, ◌&&◌, ◌==◌, if◌then◌else◌, ◌⊎◌, inl, inr, IsTrue, nat_le, List, [], ◌∷◌, ◌++◌, length, map, Option, Some, None, arith, append_assoc}
-use Rattle.std.specs.Prelude.{nat_lt, slice_index}
+use Rattle.std.proofs.Common.{◌≡◌, refl, sym, ap, subst, ◌∙◌, ℕ, zero, suc, ◌+◌, ◌<◌, ◌≤◌, max, Bool, true, false, ◌&&◌, ◌==◌, if◌then◌else◌, inl, inr, IsTrue, nat_le, List, [], ◌∷◌, ◌++◌, length, map, Some, None, arith}
+use Rattle.std.specs.Prelude.{nat_lt}
 use Rattle.std.specs.List.{list_all}
 use Rattle.std.proofs.lemmas.Bool.{and_parts, eqb-true, eq-eqb, ne_eqb, ltb-true, ltb-false}
 use Rattle.std.proofs.lemmas.List.{map-append, length-map}
@@ -8,13 +8,11 @@ use Rattle.ceu_base.specs.declared.kinds.Ty.TheVariants as ty
 use Rattle.ceu_tree.specs.declared.kernel.Kernel.{Kernel}
 use Rattle.ceu_tree.specs.declared.kernel.KCode.{KCode}
 use Rattle.ceu_tree.specs.declared.kernel.KBlock.{KBlock, KBlock', out-KBlock}
-use Rattle.ceu_tree.specs.Greatest.{greatest}
 use Rattle.ceu_tree.specs.Leaf.{code_at}
 use Rattle.ceu_tree.specs.Mentions.{outer_names_from}
-use Rattle.ceu_tree.specs.Needs.{entry, nodes_finalizers, block_gates, stmt_gates, gates_from, gates}
+use Rattle.ceu_tree.specs.Needs.{entry, block_gates, stmt_gates, gates_from, gates}
 use Rattle.ceu_tree.specs.Numbering.{decl_slots, block_slots, codes_slots, stmt_slots, block_nodes, codes_nodes, list_slots, counts_from, is_numbered}
-use Rattle.ceu_tree.specs.Proper.{Scope, BodyAim, is_above, declared_seen, pool_slots, with_decls, body_scope, is_parameter, block_ok, stmt_ok, codes_ok, is_proper, Proper}
-use Rattle.ceu_tree.specs.Weight.{weight}
+use Rattle.ceu_tree.specs.Proper.{declared_seen, pool_slots, with_decls, body_scope, is_parameter, block_ok, codes_ok, is_proper, Proper}
 use Rattle.ceu_gates.specs.declared.plan.GatePlan.{GatePlan}
 use Rattle.ceu_gates.specs.declared.ranges.GateRange.{GateRange}
 use Rattle.ceu_gates.specs.Ranges.{range, reach, stmt_ranges, block_ranges, codes_ranges, ranges, number_of, the_first, the_count, first_gate, gate_count, IsByNode}
@@ -24,11 +22,11 @@ use Rattle.ceu_slots.specs.Plans.{Planned, Lawful}
 use Rattle.ceu_shape.specs.Searches.{node_of_block, node_of_body, body_node, pool_size, escape_target, kernel_pools, block_target, codes_target}
 use Rattle.ceu_low_flow.specs.Conditions.{TargetFits}
 use Rattle.ceu_low_par.specs.Conditions.{AreNodes}
-use Rattle.ceu_codegen.specs.Conditions.{planned, OwnFits, BlockFits, CodesFit, KernelFits}
+use Rattle.ceu_codegen.specs.Conditions.{planned, OwnFits, CodesFit, KernelFits}
 use Rattle.ceu_codegen.proofs.Each.{Among, among_left, among_right, BlockEach, CodesEach, Known, Held, block_each, are_append, one_most}
 use Rattle.ceu_codegen.proofs.Scopes.{SeenBelow, declared_below}
 use Rattle.ceu_codegen.proofs.Searched.{RowsFit, or_fits, block_finds, kernel_rows, size_small}
-use Rattle.ceu_codegen.proofs.Fits.{Inside, block_fits}
+use Rattle.ceu_codegen.proofs.Fits.{block_fits}
 use denote.Hole.Carrier
 
 -- ---- numbers that count up are below their count
@@ -157,18 +155,18 @@ module _ (K : Kernel) (names : List (List ℕ)) (p : Planned) (g : GatePlan) whe
       let l = are_append p.slot_count (decl_slots c.params ++ block_slots c.body) (codes_slots cs) ss in
       let m = are_append p.slot_count (decl_slots c.params) (block_slots c.body) l.0 in
       let each = block_each K names p g table (Some k) (ranges K)
-          (λ d above there. let h = known d (ltb-true d k above) in record { counted = h.counted; some = h.some; node = h.node })
-          (λ r h. let q = held r h in record { first = q.first; count = q.count; low = q.low; node = q.node })
-          (with_decls c.params (body_scope K names (Some k) c.body c.result)) 0 c.body refl body m.1
-          (λ r h. inside r (among_left (block_ranges table 0 c.body) (codes_ranges (table ++ block_gates table c.body ∷ []) cs) r h)) in
+      (λ d above there. let h = known d (ltb-true d k above) in record { counted = h.counted; some = h.some; node = h.node })
+      (λ r h. let q = held r h in record { first = q.first; count = q.count; low = q.low; node = q.node })
+      (with_decls c.params (body_scope K names (Some k) c.body c.result)) 0 c.body refl body m.1
+      (λ r h. inside r (among_left (block_ranges table 0 c.body) (codes_ranges (table ++ block_gates table c.body ∷ []) cs) r h)) in
       let own = held (range (node_of_block c.body) 0 (block_gates table c.body))
-          (inside _ (among_left (block_ranges table 0 c.body) (codes_ranges (table ++ block_gates table c.body ∷ []) cs) _ (own_range table 0 c.body))) in
+      (inside _ (among_left (block_ranges table 0 c.body) (codes_ranges (table ++ block_gates table c.body ∷ []) cs) _ (own_range table 0 c.body))) in
       let here : body_node K k ≡ node_of_block c.body = ap (λ (n : ℕ). body_node K n) (k_plus k) ∙ ap node_of_body (at 0) in
       let last : entry k (table ++ block_gates table c.body ∷ []) ≡ block_gates table c.body = ap (λ (n : ℕ). entry n (table ++ block_gates table c.body ∷ [])) (sym long) ∙ entry_last (block_gates table c.body) table in
       let next = known_more k (block_gates table c.body) table long known
-          (record { counted = last ∙ sym own.count ∙ ap (λ (n : ℕ). (planned p g).count n) (sym here); some = omega (arith, last, some_gates table c.body); node = omega (arith, here, own.node) }) in
+      (record { counted = last ∙ sym own.count ∙ ap (λ (n : ℕ). (planned p g).count n) (sym here); some = omega (arith, last, some_gates table c.body); node = omega (arith, here, own.node) }) in
       let rest = codes_each (k + 1) (table ++ block_gates table c.body ∷ []) cs (longer (block_gates table c.body) table ∙ ap (λ (n : ℕ). n + 1) long) (code_next k c K.codes cs at) held next parts.1 l.1
-          (λ r h. inside r (among_right (block_ranges table 0 c.body) (codes_ranges (table ++ block_gates table c.body ∷ []) cs) r h)) in
+      (λ r h. inside r (among_right (block_ranges table 0 c.body) (codes_ranges (table ++ block_gates table c.body ∷ []) cs) r h)) in
       ((each, rest.0), λ d below. rest.1 d (omega arith))
     where
       k_plus : (n : ℕ) → n ≡ n + 0

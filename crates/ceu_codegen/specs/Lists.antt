@@ -5,15 +5,14 @@ use Rattle.ceu_tree.specs.declared.kernel.KDecl.{KDecl}
 use Rattle.ceu_tree.specs.declared.kernel.KNode.{KNode}
 use Rattle.ceu_tree.specs.declared.kernel.KArm.{KArm}
 use Rattle.ceu_tree.specs.declared.kernel.KBlock.{KBlock, out-KBlock}
-use Rattle.ceu_tree.specs.declared.kernel.KStmt.{KStmt}
 use Rattle.ceu_tree.specs.Greatest.{total}
 use Rattle.ceu_tree.specs.Needs.{node_finalizers}
 use Rattle.ceu_code.specs.declared.instr.Instr.TheVariants as instr
 use Rattle.ceu_asm.specs.declared.line.Line.{Line}
 use Rattle.ceu_gates.specs.declared.plan.GatePlan.{GatePlan}
 use Rattle.ceu_slots.specs.Plans.{Planned}
-use Rattle.ceu_shape.specs.Plans.{Plan, own_label, end_label}
-use Rattle.ceu_shape.specs.Pieces.{Draft, both, nothing, text}
+use Rattle.ceu_shape.specs.Plans.{Plan, own_label}
+use Rattle.ceu_shape.specs.Pieces.{Draft, both, nothing}
 use Rattle.ceu_shape.specs.Words.{mark, plain}
 use Rattle.ceu_shape.specs.Searches.{node_of_block}
 use Rattle.ceu_shape.specs.Shape.{block_labels, arm_block, with_parts, parts_draft, block_draft, arm_parts, to_end, own_gates, pool_lines, abort_own}

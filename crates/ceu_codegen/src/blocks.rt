@@ -38,7 +38,15 @@ pub fn lower_block<P: Places>(
     ensures { OnOk result (Added sheet.old sheet.new (block_draft (planned (P.planned places.now) gates.now) kernel.now block.now)) }
 {
     begin_block(sheet, kernel, places, gates, pools, block)?;
-    lower_nodes(sheet, alloc, kernel, places, gates, pools, block.list.items())?;
+    lower_nodes(
+        sheet,
+        alloc,
+        kernel,
+        places,
+        gates,
+        pools,
+        block.list.items(),
+    )?;
     end_block(sheet, kernel, places, gates, block)
 }
 
@@ -104,7 +112,9 @@ fn lower_node<P: Places>(
     let fresh = take_labels(sheet, 2 * expression_count(&node.stmt));
     let labels = labels_of(alloc, fresh, node)?;
     lower_stmt(sheet, kernel, places, gates, pools, node, &labels)?;
-    lower_parts(sheet, alloc, kernel, places, gates, pools, &node.stmt, fresh)?;
+    lower_parts(
+        sheet, alloc, kernel, places, gates, pools, &node.stmt, fresh,
+    )?;
     sheet.add(Line::Mark(end_label(node.node)))
 }
 
@@ -142,7 +152,16 @@ fn lower_parts<P: Places>(
         KStmt::Finalize(body) => lower_branch(sheet, alloc, kernel, places, gates, pools, body),
         KStmt::Do(_, body) => lower_branch(sheet, alloc, kernel, places, gates, pools, body),
         KStmt::If(arms, last) => {
-            lower_arms(sheet, alloc, kernel, places, gates, pools, arms.items(), begin)?;
+            lower_arms(
+                sheet,
+                alloc,
+                kernel,
+                places,
+                gates,
+                pools,
+                arms.items(),
+                begin,
+            )?;
             lower_branch(sheet, alloc, kernel, places, gates, pools, last)
         }
         KStmt::Loop(kind, body) => {

@@ -135,7 +135,11 @@ fn add_parts(parts: &mut Seq<u32>, stmt: &KStmt, fresh: u32) -> Result<(), Alloc
         KStmt::Out(_, exp) => add_expressions(parts, count_if(exp), fresh),
         KStmt::Emit(_, exp) => add_expressions(parts, count_if(exp), fresh),
         KStmt::AwaitTime(_, _, _) => add_expressions(parts, 1, fresh),
-        KStmt::AwaitCode(_, arguments, _, _) => add_expressions(parts, arguments.items().len(), fresh),
+        KStmt::AwaitCode(_, arguments, _, _) => add_expressions(
+            parts,
+            arguments.items().len(),
+            fresh,
+        ),
         KStmt::Spawn(_, arguments, _, _) => add_expressions(parts, arguments.items().len(), fresh),
         KStmt::Escape(_, exp) => add_expressions(parts, count_if(exp), fresh),
         KStmt::Nothing => add_expressions(parts, 0, fresh),

@@ -1,25 +1,21 @@
-use Rattle.std.proofs.Common.{◌≡◌, refl, sym, ap, subst, ◌∙◌, ℕ, ◌+◌, ◌*◌, ◌<◌, ◌≤◌, List, [], ◌∷◌, ◌++◌, length, drop, rules, arith}
+use Rattle.std.proofs.Common.{◌≡◌, refl, sym, ap, subst, ◌∙◌, ℕ, ◌+◌, ◌*◌, ◌<◌, List, [], ◌∷◌, ◌++◌, length, drop, rules, arith}
 use Rattle.ceu_tree.specs.declared.kernel.KExp.{KExp}
 use Rattle.ceu_tree.specs.declared.kernel.KNode.{KNode}
 use Rattle.ceu_tree.specs.declared.kernel.KArm.{KArm, out-KArm}
-use Rattle.ceu_tree.specs.declared.kernel.KBlock.{KBlock, out-KBlock}
+use Rattle.ceu_tree.specs.declared.kernel.KBlock.{KBlock}
 use Rattle.ceu_tree.specs.declared.kernel.KStmt.{KStmt}
 use Rattle.ceu_tree.specs.Greatest.{total}
-use Rattle.ceu_tree.specs.Weight.{exp_count, stmt_weight, block_weight, branch_weight, node_weight}
+use Rattle.ceu_tree.specs.Weight.{exp_count, block_weight, branch_weight, node_weight}
 use Rattle.ceu_tree.proofs.Sizes.{stmt_size, block_size, node_list_size, arm_size, arm_list_size, block_list_size, size_block, size_arm, size_if, size_par, size_loop, size_do, size_async, size_finalize, member_node, member_block, member_arm}
 use Rattle.ceu_asm.specs.declared.line.Labels.{Labels}
-use Rattle.ceu_asm.specs.declared.line.Line.{Line}
-use Rattle.ceu_shape.specs.Plans.{Plan, end_label}
-use Rattle.ceu_shape.specs.Pieces.{Draft, Added, both, nothing}
+use Rattle.ceu_shape.specs.Plans.{Plan}
+use Rattle.ceu_shape.specs.Pieces.{Draft, both, nothing}
 use Rattle.ceu_shape.specs.Words.{mark, goto}
-use Rattle.ceu_shape.specs.Shape.{expression_count, part_labels, parts_draft, block_draft, arm_parts, exp_part, exp_parts, turn_parts}
+use Rattle.ceu_shape.specs.Shape.{expression_count, parts_draft, arm_parts, exp_part, exp_parts, turn_parts}
 use Rattle.ceu_shape.proofs.Adding.{added_nothing, added_both}
-use Rattle.ceu_low_expr.specs.Conditions.{HasRoom, NamesBelow}
-use Rattle.ceu_low_flow.specs.Bounds.{arms_of}
+use Rattle.ceu_low_expr.specs.Conditions.{HasRoom}
 use Rattle.ceu_low_flow.proofs.Adding.{arms_counted}
-use Rattle.ceu_low_par.specs.Conditions.{AreNodes}
-use Rattle.ceu_codegen.specs.Conditions.{NodeFits, AllName, TurnsName, PartsFit, BlockFits, ArmFits, part_nodes, planned}
-use Rattle.ceu_codegen.specs.Kinds.{parts_counted}
+use Rattle.ceu_codegen.specs.Conditions.{AllName, PartsFit, part_nodes, planned}
 use Rattle.ceu_codegen.specs.Lists.{one_draft, node_list_draft, arm_list_draft, block_list_draft, branch_draft, NodeListFits, ArmListFits, BlockListFits}
 use Rattle.ceu_codegen.specs.Rooms.{arm_room, turns_room, parts_room}
 use Rattle.ceu_codegen.proofs.Levels.{arm_is, if_is, par_is, block_own_fits, block_nodes_fit, arm_cond_fits, arm_body_fits, if_arms_fit, if_last_fits, par_fits, room_of_if, room_of_par, room_of_arm}
@@ -27,7 +23,7 @@ use Rattle.ceu_codegen.proofs.Parts as parts
 use Rattle.ceu_codegen.proofs.Small.{part_small, turns_small, stmt_needs, one_small, branch_small, arm_small, arms_list_small}
 use Rattle.ceu_codegen.proofs.Labelled.{parts_length}
 use Rattle.ceu_codegen.proofs.Joined.{are_more, node_added, own_room, rest_room, block_added, block_room, branch_added}
-use Rattle.ceu_codegen.proofs.Walks.{on_ok, drafted, item, total_item, walked, arrived, room_less, room_after, room_lined}
+use Rattle.ceu_codegen.proofs.Walks.{on_ok, drafted, item, total_item, walked, arrived, room_less, room_after}
 use Rattle.ceu_codegen.proofs.blocks.+blocks.Goals as goal
 
 -- ---- blocks
@@ -52,7 +48,7 @@ pub lower_block-returns : goal.lower_block-returns
 lower_block-returns g t c =
     let plan : Plan = planned (g.P.Places.planned c.args.places.now) c.args.gates.now in
     on_ok c.end_block.result (λ e. block_added plan c.args.kernel.now c.args.block.now c.items.result.now c.args.sheet.now c.begin_block.new.sheet c.lower_nodes.new.sheet c.end_block.new.sheet
-        c.items.ensures c.in_ok-begin_block.ensures c.in_ok-lower_nodes.ensures e) c.end_block.ensures
+    c.items.ensures c.in_ok-begin_block.ensures c.in_ok-lower_nodes.ensures e) c.end_block.ensures
 
 pub lower_branch-end_label-requires : goal.lower_branch-end_label-requires
 lower_branch-end_label-requires g t c =
@@ -63,7 +59,7 @@ pub lower_branch-returns : goal.lower_branch-returns
 lower_branch-returns g t c =
     let plan : Plan = planned (g.P.Places.planned c.args.places.now) c.args.gates.now in
     on_ok c.add.result (λ e. branch_added plan c.args.kernel.now c.args.block.now c.args.sheet.now c.lower_block.new.sheet c.add.new.self c.goto.result c.in_ok-lower_block.ensures
-        (c.goto.ensures ∙ ap goto c.end_label.ensures) e) c.add.ensures.ok
+    (c.goto.ensures ∙ ap goto c.end_label.ensures) e) c.add.ensures.ok
 
 -- ---- lists
 
@@ -205,7 +201,7 @@ lower_arm-lower_branch-requires g t c κs within =
     let body = (out-KArm a).body in
     let fits = arm_body_fits p c.args.gates.now K a c.requires.fits in
     let room = room_after c.args.sheet.now c.lower_part.new.sheet (exp_part plan K c.args.begin cond) (exp_count cond) (block_weight body) (arm_room a) (omega (arith, room_of_arm a))
-        (part_small plan K c.args.begin cond) c.in_ok-lower_part.ensures c.requires.room in
+    (part_small plan K c.args.begin cond) c.in_ok-lower_part.ensures c.requires.room in
     let size = size_arm a in
     search (rules, fits, room, size)
 
@@ -265,7 +261,7 @@ lower_node-returns g t c =
     let given = c.take_labels-fresh.ensures.given ∙ ap (λ (n : ℕ). record s0 { labels = s0.labels + 2 * n }) c.expression_count.ensures in
     let first : 0 < 2 * expression_count x.stmt → r ≡ s0.labels = λ h. c.take_labels-fresh.ensures.first (omega (arith, h, c.expression_count.ensures)) in
     on_ok c.add.result (λ e. node_added plan K x s0 c.take_labels-fresh.new.sheet c.lower_stmt.new.sheet c.lower_parts.new.sheet c.add.new.self r c.in_ok-labels.labels first given c.in_ok-labels.ensures
-        c.in_ok-lower_stmt.ensures c.in_ok-lower_parts.ensures (e ∙ ap (λ (n : ℕ). record c.lower_parts.new.sheet { lines = c.lower_parts.new.sheet.lines ++ (mark n ∷ []) }) c.end_label.ensures)) c.add.ensures.ok
+    c.in_ok-lower_stmt.ensures c.in_ok-lower_parts.ensures (e ∙ ap (λ (n : ℕ). record c.lower_parts.new.sheet { lines = c.lower_parts.new.sheet.lines ++ (mark n ∷ []) }) c.end_label.ensures)) c.add.ensures.ok
 
 -- ---- the parts of a statement
 
@@ -429,7 +425,7 @@ lower_parts-lower_branch-requires-in-If g t c κs within =
     let few = ap (λ (s : KStmt). parts_room s) c.in-If.is ∙ room_of_if arms last in
     let same = ap (λ (ys : List KArm). total arm_room ys) c.items-in-If.ensures in
     let room = room_after c.args.sheet.now c.lower_arms.new.sheet (arm_list_draft plan K c.args.begin xs) (total arm_room xs) (block_weight last) (parts_room c.args.stmt.now) (omega (arith, few, same))
-        (arms_list_small plan K c.args.begin xs) c.in_ok-lower_arms-in-If.ensures c.requires.room in
+    (arms_list_small plan K c.args.begin xs) c.in_ok-lower_arms-in-If.ensures c.requires.room in
     let size = ap (λ (s : KStmt). stmt_size s) c.in-If.is ∙ size_if arms last in
     search (rules, fits, room, size)
 
@@ -446,7 +442,7 @@ lower_parts-returns-in_ok-lower_arms-in-If g t c =
     let s2 = c.lower_branch-in-If.new.sheet in
     let is = ap (λ (s : KStmt). parts_draft plan K s begin) c.in-If.is ∙ if_is plan K arms c.in-If.last begin ∙ ap (λ (ys : List KArm). both (arm_list_draft plan K begin ys) last) (sym c.items-in-If.ensures) in
     on_ok c.lower_branch-in-If.result (λ h. drafted s0 s2 (both (arm_list_draft plan K begin xs) last) (parts_draft plan K c.args.stmt.now begin) is
-        (added_both s0 s1 s2 (arm_list_draft plan K begin xs) last c.in_ok-lower_arms-in-If.ensures h)) c.lower_branch-in-If.ensures
+    (added_both s0 s1 s2 (arm_list_draft plan K begin xs) last c.in_ok-lower_arms-in-If.ensures h)) c.lower_branch-in-If.ensures
 
 pub lower_parts-lower_turns-requires-clause-names : goal.lower_parts-lower_turns-requires-clause-names
 lower_parts-lower_turns-requires-clause-names g t c = (parts.loop_fits (g.P.Places.planned c.args.places.now) c.args.gates.now c.args.kernel.now c.args.stmt.now c.in-Loop.kind c.in-Loop.body c.in-Loop.is c.requires.fits).0
@@ -466,7 +462,7 @@ lower_parts-lower_branch-requires-in-Loop g t c κs within =
     let fits = (parts.loop_fits p c.args.gates.now K c.args.stmt.now kind body c.in-Loop.is c.requires.fits).1 in
     let few = parts.loop_room c.args.stmt.now kind body c.in-Loop.is in
     let room = room_after c.args.sheet.now c.lower_turns.new.sheet (turn_parts plan K c.args.begin kind) (turns_room kind) (block_weight body) (parts_room c.args.stmt.now) (omega (arith, few))
-        (turns_small plan K c.args.begin kind) c.in_ok-lower_turns-in-Loop.ensures c.requires.room in
+    (turns_small plan K c.args.begin kind) c.in_ok-lower_turns-in-Loop.ensures c.requires.room in
     let size = ap (λ (s : KStmt). stmt_size s) c.in-Loop.is ∙ size_loop kind body in
     search (rules, fits, room, size)
 
@@ -482,7 +478,7 @@ lower_parts-returns-in_ok-lower_turns-in-Loop g t c =
     let s2 = c.lower_branch-in-Loop.new.sheet in
     let is = ap (λ (s : KStmt). parts_draft plan K s begin) c.in-Loop.is ∙ parts.loop_is plan K begin c.in-Loop.kind c.in-Loop.body in
     on_ok c.lower_branch-in-Loop.result (λ h. drafted s0 s2 (both first last) (parts_draft plan K c.args.stmt.now begin) is
-        (added_both s0 s1 s2 first last c.in_ok-lower_turns-in-Loop.ensures h)) c.lower_branch-in-Loop.ensures
+    (added_both s0 s1 s2 first last c.in_ok-lower_turns-in-Loop.ensures h)) c.lower_branch-in-Loop.ensures
 
 pub lower_parts-lower_branches-requires : goal.lower_parts-lower_branches-requires
 lower_parts-lower_branches-requires g t c κs within =
@@ -504,7 +500,7 @@ lower_parts-returns-in-Par g t c =
     let plan : Plan = planned (g.P.Places.planned c.args.places.now) c.args.gates.now in
     let K = c.args.kernel.now in
     let is = ap (λ (s : KStmt). parts_draft plan K s c.args.begin) c.in-Par.is ∙ par_is plan K c.in-Par.field-0 c.in-Par.field-1 c.in-Par.branches c.args.begin
-        ∙ ap (λ (xs : List KBlock). block_list_draft plan K xs) (sym c.items-in-Par.ensures) in
+    ∙ ap (λ (xs : List KBlock). block_list_draft plan K xs) (sym c.items-in-Par.ensures) in
     on_ok c.lower_branches.result (λ h. drafted c.args.sheet.now c.lower_branches.new.sheet _ (parts_draft plan K c.args.stmt.now c.args.begin) is h) c.lower_branches.ensures
 
 pub lower_parts-returns-in-Nothing : goal.lower_parts-returns-in-Nothing

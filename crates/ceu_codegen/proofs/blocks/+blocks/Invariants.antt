@@ -1,6 +1,6 @@
-use Rattle.std.proofs.Common.{◌≡◌, ℕ, ◌+◌, ◌*◌, drop}
+use Rattle.std.proofs.Common.{◌≡◌, ◌+◌, ◌*◌, drop}
 use Rattle.ceu_tree.specs.Greatest.{total}
-use Rattle.ceu_tree.specs.Weight.{block_weight, branch_weight, node_weight}
+use Rattle.ceu_tree.specs.Weight.{branch_weight, node_weight}
 use Rattle.ceu_tree.proofs.Sizes.{stmt_size, block_size, node_list_size, arm_size, arm_list_size, block_list_size}
 use Rattle.ceu_asm.specs.Pages.{Page}
 use Rattle.ceu_shape.specs.Pieces.{Added}

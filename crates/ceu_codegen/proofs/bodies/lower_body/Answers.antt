@@ -18,4 +18,4 @@ returns g c =
     let plan : Plan = planned (g.P.Places.planned c.args.places.now) c.args.gates.now in
     let K = c.args.kernel.now in
     on_ok c.add-2.result (λ e. body_added plan K c.args.body.now (zero_given plan K c.args.ty) (plain c.args.end) c.end_label.result c.args.sheet.now c.lower_block.new.sheet c.add_zero.new.sheet c.add.new.self c.add-2.new.self
-        c.in_ok-lower_block.ensures c.in_ok-add_zero.ensures c.end_label.ensures c.in_ok-add.ensures.ok e) c.add-2.ensures.ok
+    c.in_ok-lower_block.ensures c.in_ok-add_zero.ensures c.end_label.ensures c.in_ok-add.ensures.ok e) c.add-2.ensures.ok

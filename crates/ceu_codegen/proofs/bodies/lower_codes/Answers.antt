@@ -1,4 +1,4 @@
-use Rattle.std.proofs.Common.{◌≡◌, refl, subst, ℕ, ◌+◌, ◌<◌, List, length, drop, arith}
+use Rattle.std.proofs.Common.{refl, subst, ◌+◌, ◌<◌, List, length, drop, arith}
 use Rattle.ceu_tree.specs.declared.kernel.KCode.{KCode}
 use Rattle.ceu_tree.specs.Greatest.{total}
 use Rattle.ceu_tree.specs.Weight.{code_weight}

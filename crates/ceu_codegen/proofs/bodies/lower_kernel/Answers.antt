@@ -1,6 +1,5 @@
-use Rattle.std.proofs.Common.{◌≡◌, sym, ap, subst, ◌∙◌, ℕ, ◌+◌, ◌*◌, ◌≤◌, List, [], ◌∷◌, length, arith}
+use Rattle.std.proofs.Common.{◌≡◌, ap, subst, ◌∙◌, ℕ, ◌+◌, ◌*◌, List, [], ◌∷◌, length, arith}
 use Rattle.ceu_base.specs.declared.kinds.Ty.TheVariants as ty
-use Rattle.ceu_tree.specs.declared.kernel.Kernel.{Kernel}
 use Rattle.ceu_tree.specs.declared.kernel.KCode.{KCode}
 use Rattle.ceu_tree.specs.Greatest.{total}
 use Rattle.ceu_tree.specs.Weight.{block_weight, code_weight}
@@ -9,7 +8,7 @@ use Rattle.ceu_asm.specs.Pages.{Page}
 use Rattle.ceu_shape.specs.Plans.{Plan}
 use Rattle.ceu_shape.specs.Pieces.{Added}
 use Rattle.ceu_shape.specs.Words.{plain}
-use Rattle.ceu_shape.specs.Shape.{zero_given, program_draft, codes_draft, first_fresh, shape_lines, shape_positions}
+use Rattle.ceu_shape.specs.Shape.{zero_given, program_draft, codes_draft, first_fresh}
 use Rattle.ceu_shape.proofs.Adding.{added_both}
 use Rattle.ceu_codegen.specs.Conditions.{planned}
 use Rattle.ceu_codegen.proofs.Ended.{fresh_page, first_room, kernel_done, body_small}
@@ -46,7 +45,7 @@ returns-clause-lines g c =
     let is = taken c.new-sheet.result c.take_labels.new.sheet (length c.items.result.now) (length c.args.gates.now.first) c.new-sheet.ensures c.take_labels.ensures.given (ap (length {A = ℕ}) c.items.ensures) in
     let first : 2 * length c.args.gates.now.first ≡ first_fresh K = ap (λ (n : ℕ). 2 * n) c.requires.ready.all_nodes in
     let codes : Added c.lower_body.new.sheet c.lower_codes.new.sheet (codes_draft plan K K.codes) =
-        subst (λ (cs : List KCode). Added c.lower_body.new.sheet c.lower_codes.new.sheet (codes_draft plan K cs)) c.items-codes.ensures c.in_ok-lower_codes.ensures in
+    subst (λ (cs : List KCode). Added c.lower_body.new.sheet c.lower_codes.new.sheet (codes_draft plan K cs)) c.items-codes.ensures c.in_ok-lower_codes.ensures in
     (kernel_done plan K (2 * length c.args.gates.now.first) c.take_labels.new.sheet c.lower_codes.new.sheet first is
     (added_both c.take_labels.new.sheet c.lower_body.new.sheet c.lower_codes.new.sheet (program_draft plan K K.body) (codes_draft plan K K.codes) c.in_ok-lower_body.ensures codes)).0
 
@@ -57,6 +56,6 @@ returns-clause-places g c =
     let is = taken c.new-sheet.result c.take_labels.new.sheet (length c.items.result.now) (length c.args.gates.now.first) c.new-sheet.ensures c.take_labels.ensures.given (ap (length {A = ℕ}) c.items.ensures) in
     let first : 2 * length c.args.gates.now.first ≡ first_fresh K = ap (λ (n : ℕ). 2 * n) c.requires.ready.all_nodes in
     let codes : Added c.lower_body.new.sheet c.lower_codes.new.sheet (codes_draft plan K K.codes) =
-        subst (λ (cs : List KCode). Added c.lower_body.new.sheet c.lower_codes.new.sheet (codes_draft plan K cs)) c.items-codes.ensures c.in_ok-lower_codes.ensures in
+    subst (λ (cs : List KCode). Added c.lower_body.new.sheet c.lower_codes.new.sheet (codes_draft plan K cs)) c.items-codes.ensures c.in_ok-lower_codes.ensures in
     (kernel_done plan K (2 * length c.args.gates.now.first) c.take_labels.new.sheet c.lower_codes.new.sheet first is
     (added_both c.take_labels.new.sheet c.lower_body.new.sheet c.lower_codes.new.sheet (program_draft plan K K.body) (codes_draft plan K K.codes) c.in_ok-lower_body.ensures codes)).1

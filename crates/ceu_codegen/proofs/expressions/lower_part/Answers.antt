@@ -1,4 +1,4 @@
-use Rattle.std.proofs.Common.{◌≡◌, sym, ap, ◌∙◌, ℕ, ◌+◌, List, [], ◌∷◌, ◌++◌}
+use Rattle.std.proofs.Common.{ap, ◌∙◌, ◌+◌, List, [], ◌∷◌, ◌++◌}
 use Rattle.ceu_tree.specs.Weight.{exp_count}
 use Rattle.ceu_asm.specs.declared.line.Line.{Line}
 use Rattle.ceu_shape.specs.Pieces.{Draft, both, text}

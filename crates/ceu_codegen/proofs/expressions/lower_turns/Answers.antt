@@ -1,4 +1,4 @@
-use Rattle.std.proofs.Common.{◌≡◌, sym, ap, subst, ◌∙◌, ℕ, ◌+◌, ◌≤◌, arith}
+use Rattle.std.proofs.Common.{sym, subst, ◌+◌, arith}
 use Rattle.ceu_tree.specs.declared.kernel.KLoop.{KLoop}
 use Rattle.ceu_tree.specs.Weight.{exp_count}
 use Rattle.ceu_shape.specs.Plans.{Plan}

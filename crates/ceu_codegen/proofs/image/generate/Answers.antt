@@ -1,18 +1,13 @@
-use Rattle.std.proofs.Common.{◌≡◌, sym, ap, subst, ◌∙◌, ℕ, ◌+◌, ◌*◌, ◌<◌, ◌≤◌, List, [], ◌∷◌, ◌++◌, length, map, arith}
+use Rattle.std.proofs.Common.{◌≡◌, sym, ap, subst, ◌∙◌, ℕ, ◌≤◌, List, length, map, arith}
 use Rattle.std.specs.List.{AllByRecursion}
 use Rattle.std.proofs.lemmas.List.{length-map}
-use Rattle.ceu_base.specs.declared.kinds.Pos.{Pos}
-use Rattle.ceu_tree.specs.declared.kernel.Kernel.{Kernel}
-use Rattle.ceu_tree.specs.declared.kernel.KCode.{KCode}
-use Rattle.ceu_tree.specs.Depth.{depth}
-use Rattle.ceu_tree.specs.Needs.{gates}
 use Rattle.ceu_tree.specs.Numbering.{block_nodes, codes_nodes}
 use Rattle.ceu_asm.specs.declared.line.Line.{Line}
-use Rattle.ceu_asm.specs.Lines.{IsWhole, assembled}
+use Rattle.ceu_asm.specs.Lines.{IsWhole}
 use Rattle.ceu_slots.specs.Plans.{Planned, Lawful}
 use Rattle.ceu_shape.specs.Plans.{Plan}
-use Rattle.ceu_shape.specs.Searches.{PoolRow, kernel_pools}
-use Rattle.ceu_shape.specs.Shape.{shape_lines, code_rows, pool_code}
+use Rattle.ceu_shape.specs.Searches.{kernel_pools}
+use Rattle.ceu_shape.specs.Shape.{shape_lines}
 use Rattle.ceu_placed.proofs.Few.{whole_code}
 use Rattle.ceu_codegen.specs.declared.pools.Pool.{Pool}
 use Rattle.ceu_codegen.specs.Conditions.{planned}
@@ -20,7 +15,7 @@ use Rattle.ceu_codegen.specs.Images.{CodesMarked}
 use Rattle.ceu_codegen.specs.Pools.{as_pool}
 use Rattle.ceu_codegen.proofs.Counts.{few_nodes, few_codes, few_pools}
 use Rattle.ceu_codegen.proofs.Each.{are_append}
-use Rattle.ceu_codegen.proofs.Imaged.{cut_small, node_marked, codes_marked, codes_are, codes_small, image_done}
+use Rattle.ceu_codegen.proofs.Imaged.{node_marked, codes_marked, codes_small}
 use Rattle.ceu_codegen.proofs.Whole.{all_nodes, rows_fit, kernel_fits}
 use Rattle.ceu_codegen.proofs.image.generate.Goals as goal
 
@@ -65,7 +60,7 @@ image_of-requires-clause-codes g c =
     let whole : IsWhole (shape_lines plan K) = whole_code plan K c.requires.proper c.requires.weight in
     let few : nodes ≤ 65535 = omega (arith, c.requires.first.one_each, few_nodes K c.requires.weight) in
     let all : CodesMarked (shape_lines plan K) nodes K.codes =
-        codes_marked (shape_lines plan K) nodes K.codes few whole.fits (λ node h. node_marked plan K c.requires.proper node (omega (arith, h, c.requires.first.one_each))) low in
+    codes_marked (shape_lines plan K) nodes K.codes few whole.fits (λ node h. node_marked plan K c.requires.proper node (omega (arith, h, c.requires.first.one_each))) low in
     let a = subst (λ (ls : List Line). CodesMarked ls nodes K.codes) (sym c.in_ok-sheet.ensures.lines) all in
     subst (λ (n : ℕ). CodesMarked c.in_ok-sheet.sheet.lines n K.codes) (sym counted) a
 

@@ -1,4 +1,4 @@
-use Rattle.std.proofs.Common.{◌≡◌, sym, ap, ◌∙◌, ℕ, List, [], ◌∷◌, ◌++◌, map, arith}
+use Rattle.std.proofs.Common.{ap, ◌∙◌, List, map}
 use Rattle.ceu_tree.specs.declared.kernel.KCode.{KCode}
 use Rattle.ceu_tree.specs.Depth.{depth}
 use Rattle.ceu_tree.specs.Needs.{gates}

@@ -1,8 +1,8 @@
-use Rattle.std.proofs.Common.{◌≡◌, sym, ap, subst, ◌∙◌, ℕ, ◌+◌, ◌*◌, ◌<◌, List, [], ◌∷◌, ◌++◌, length, arith, append_assoc}
+use Rattle.std.proofs.Common.{◌≡◌, sym, ap, subst, ◌∙◌, ℕ, List, [], ◌∷◌, ◌++◌, length, arith, append_assoc}
 use Rattle.ceu_tree.specs.declared.kernel.KArm.{KArm}
 use Rattle.ceu_tree.specs.declared.kernel.KBlock.{KBlock}
 use Rattle.ceu_tree.specs.declared.kernel.KStmt.{KStmt}
-use Rattle.ceu_tree.specs.declared.kernel.KStmt.TheBlock.{hidden-the_row-KArm-0, hidden-the_row-KBlock-1}
+use Rattle.ceu_tree.specs.declared.kernel.KStmt.TheBlock.{hidden-the_row-KArm-0}
 use Rattle.ceu_shape.specs.Searches.{node_of_block}
 use Rattle.ceu_shape.specs.Shape.{block_labels, expression_count, part_labels}
 use Rattle.ceu_low_flow.proofs.Adding.{arms_counted}
@@ -46,9 +46,9 @@ returns-in_ok-add_arms-in-If c =
     let arms = c.in-If.arms in
     let last = block_labels c.in-If.last in
     let is : part_labels fresh c.args.stmt.now ≡ arm_list_labels fresh arms ++ last =
-        ap (part_labels fresh) c.in-If.is ∙ ap (λ (ls : List ℕ). ls ++ last) (arms_labelled arms fresh) in
+    ap (part_labels fresh) c.in-If.is ∙ ap (λ (ls : List ℕ). ls ++ last) (arms_labelled arms fresh) in
     on_ok c.add_block-in-If.result (λ e. e ∙ ap (λ (ls : List ℕ). ls ++ last) (c.in_ok-add_arms-in-If.ensures ∙ ap (λ (xs : List KArm). old ++ arm_list_labels fresh xs) c.items.ensures)
-        ∙ append_assoc old (arm_list_labels fresh arms) last ∙ ap (λ (ls : List ℕ). old ++ ls) (sym is)) c.add_block-in-If.ensures
+    ∙ append_assoc old (arm_list_labels fresh arms) last ∙ ap (λ (ls : List ℕ). old ++ ls) (sym is)) c.add_block-in-If.ensures
 
 pub returns-in-Par : goal.returns-in-Par
 returns-in-Par c =

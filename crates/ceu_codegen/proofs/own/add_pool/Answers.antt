@@ -21,5 +21,5 @@ returns-in-Pool g c =
     let lines : ℕ → ℕ → List Line = λ (a r : ℕ). old.lines ++ (plain (instr.MakePool a c.in-Pool.number r c.args.first) ∷ []) in
     let row : c.row_of-row.result ≡ pool_row K slot = c.row_of-row.ensures ∙ ap (row_among slot) c.requires.ready.pools ∙ row_is slot (kernel_pools K) in
     on_ok c.add.result (λ e. e ∙ ap (λ (a : ℕ). with_lines old (lines a c.row_of-row.result)) c.offset-offset.ensures
-        ∙ ap (λ (r : ℕ). with_lines old (lines (plan.offset slot) r)) row
-        ∙ ap (λ (k : KKind). with_lines old (old.lines ++ pool_line plan K c.args.first slot k)) (sym c.in-Pool.is)) c.add.ensures.ok
+    ∙ ap (λ (r : ℕ). with_lines old (lines (plan.offset slot) r)) row
+    ∙ ap (λ (k : KKind). with_lines old (old.lines ++ pool_line plan K c.args.first slot k)) (sym c.in-Pool.is)) c.add.ensures.ok

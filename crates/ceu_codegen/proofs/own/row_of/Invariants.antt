@@ -1,4 +1,4 @@
-use Rattle.std.proofs.Common.{◌≡◌, ◌+◌, ◌≤◌, drop}
+use Rattle.std.proofs.Common.{◌≡◌, ◌+◌, drop}
 use Rattle.ceu_codegen.specs.Pools.{row_among}
 use Rattle.ceu_codegen.proofs.own.row_of.Given as goal
 
