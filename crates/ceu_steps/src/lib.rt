@@ -1,0 +1,2 @@
+//! Programs of one trail: the machine does what the reference semantics does, step by step.
+#![tactic(auto)]
