@@ -14,7 +14,7 @@ use Rattle.ceu_values.specs.Needed.{Valued}
 use Rattle.ceu_shape.specs.Plans.{Plan}
 use Rattle.ceu_trail.specs.Built.{PartBuilt}
 use Rattle.ceu_trail.specs.Compiled.{Compiled}
-use Rattle.ceu_trail.specs.Within.{in_focus, ValuesWithin}
+use Rattle.ceu_trail.specs.Within.{TurnWithin}
 use Rattle.ceu_trail.specs.Turning.{TurnStands}
 use Rattle.ceu_trail.specs.Coming.{Comes}
 
@@ -32,6 +32,6 @@ PartsAreBuilt =
 abbrev pub StepsAreDone : Type 0
 StepsAreDone =
     (image : Image) (P : Plan) (width : ℕ → ℕ) (K : Kernel) (f : Focus Act) (w : World) (r : Registers) (m : Machine)
-    → Compiled image P width K → TurnFits K 1 (program_part K) f → Valued (Turning 0 f w) → ValuesWithin (in_focus f) w
+    → Compiled image P width K → TurnFits K 1 (program_part K) f → Valued (Turning 0 f w) → TurnWithin K f w
     → TurnStands image P width K f w r m.bytes
     → Comes image P width K w r m (stepped K 0 Program f w).outcome (stepped K 0 Program f w).world

@@ -1,9 +1,12 @@
--- In a program of one trail: each value that is held is that of a variable of a block that is open, or of a loop over a range, and is one of its type.
-use Rattle.std.specs.Prelude.{◌≡◌, ℕ, ℤ, List, [], ◌∷◌, ◌++◌, Some}
+-- What holds of values in a program of one trail: each that is held is that of a variable of a block that is open, or of a loop over a range, and is one
+-- of its type; a loop over a range counts within its variable's type; an input and a time bring a value of theirs.
+use Rattle.std.specs.Prelude.{◌≡◌, ℕ, suc, ℤ, pos, ◌+ℤ◌, ◌-ℤ◌, int_le, true, List, [], ◌∷◌, ◌++◌, Some}
 use Rattle.std.specs.List.{Contains}
 use Rattle.ceu_base.specs.declared.kinds.Ty.{Ty}
 use Rattle.ceu_base.specs.declared.kinds.Ty.TheVariants as ty
-use Rattle.ceu_base.specs.Values.{IsValue}
+use Rattle.ceu_base.specs.Values.{IsValue, least, above}
+use Rattle.ceu_tree.specs.declared.kernel.Kernel.{Kernel}
+use Rattle.ceu_tree.specs.declared.kernel.KNode.{KNode}
 use Rattle.ceu_tree.specs.declared.kernel.KDecl.{KDecl}
 use Rattle.ceu_tree.specs.declared.kernel.KKind.{KKind}
 use Rattle.ceu_tree.specs.declared.kernel.KKind.TheVariants as kind
@@ -13,8 +16,9 @@ use Rattle.ceu_tree.specs.declared.kernel.KBlock.{out-KBlock}
 use Rattle.ceu_tree.specs.declared.kernel.KStmt.{out-KStmt}
 use Rattle.ceu_tree.specs.declared.kernel.KStmt.TheOpen.{KStmt-F}
 use Rattle.ceu_tree.specs.Leaf.{Layer}
-use Rattle.ceu_tree.specs.Residual.{Body, Program, Residual, Block, Open, Loop}
-use Rattle.ceu_tree.specs.Focus.{Frame, OfBlock, OfLoop, Focus, Here, In}
+use Rattle.ceu_tree.specs.Proper.{port_ty}
+use Rattle.ceu_tree.specs.Residual.{Body, Program, Act, Finish, Counter, Upward, Residual, Run, Block, Open, Loop}
+use Rattle.ceu_tree.specs.Focus.{Frame, OfBlock, OfLoop, Focus, Here, In, leaf}
 use Rattle.ceu_tree.specs.World.{Cell, Holds, World, look}
 
 pub record Variable : Type 0 where
@@ -68,3 +72,52 @@ pub record OneOf (vs : List Variable) (body : Body) (slot : ℕ) (c : Cell) : Ty
 
 pub record ValuesWithin (vs : List Variable) (w : World) : Type 0 where
   pub within : (body : Body) (slot : ℕ) (c : Cell) → look body slot w.values ≡ Some c → OneOf vs body slot c
+
+-- ---- counters of loops over a range: the next value, and the last one
+
+pub record CountsWithin (next last : ℤ) : Type 0 where
+  pub from : int_le (least ty.S32) next ≡ true
+  pub to : int_le next (above ty.S32) ≡ true
+  pub last_from : int_le (least ty.S32 -ℤ pos 1) last ≡ true
+  pub last_to : int_le (last +ℤ pos 1) (above ty.S32) ≡ true
+
+abbrev pub counter_within : Counter → Type 0
+counter_within (Upward next last) = CountsWithin next last
+counter_within c = Unit {0}
+
+abbrev pub frame_within : Frame → Type 0
+frame_within (OfLoop s c) = counter_within c
+frame_within fr = Unit {0}
+
+unfoldable pub focus_within : {A : Type 0} → Focus A → Type 0
+focus_within (Here a) = Unit {0}
+focus_within (In fr f) = frame_within fr × focus_within f
+
+-- ---- the value that a statement which waited goes on with
+
+abbrev pub brings : Kernel → Layer → ℤ → Type 0
+brings K (KStmt-F.AwaitIn k t) v = (u : Ty) → port_ty K k K.inputs ≡ Some u → IsValue u v
+brings K (KStmt-F.AwaitTime e u t) v = IsValue ty.S32 v
+brings K layer v = Unit {0}
+
+abbrev pub act_brings : Kernel → Act → Type 0
+act_brings K (Finish s v) = brings K (out-KStmt s.stmt) v
+act_brings K a = Unit {0}
+
+-- ---- the whole
+
+pub record TurnWithin (K : Kernel) (f : Focus Act) (w : World) : Type 0 where
+  pub values : ValuesWithin (in_focus f) w
+  pub counters : focus_within f
+  pub brought : act_brings K (leaf f)
+
+unfoldable pub rest_within : Kernel → Residual → Type 0
+rest_within K (Block b fin all r rest) = rest_within K r
+rest_within K (Open s r) = rest_within K r
+rest_within K (Loop s c r) = counter_within c × rest_within K r
+rest_within K (Run n a) = act_brings K a
+rest_within K r = Unit {0}
+
+pub record RestWithin (K : Kernel) (r : Residual) (w : World) : Type 0 where
+  pub values : ValuesWithin (in_rest r) w
+  pub counters : rest_within K r
