@@ -3,3 +3,4 @@ pub mod Steps
 pub mod Works
 pub mod Runs
 pub mod Nodes
+pub mod Ticks

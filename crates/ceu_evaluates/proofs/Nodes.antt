@@ -1,10 +1,9 @@
 -- The lines of each expression do what the reference semantics says.
-use Rattle.std.proofs.Common.{◌≡◌, ◌≢◌, refl, sym, ap, ◌∙◌, subst, ◌<◌, ◌≤◌, ℕ, ◌+◌, max, ℤ, pos, Bool, true, false, List, [], ◌∷◌, Option, Some, None, Result, Ok, Err, arith}
+use Rattle.std.proofs.Common.{◌≡◌, ◌≢◌, refl, sym, ap, ◌∙◌, subst, ◌≤◌, ℕ, ◌+◌, max, ℤ, Bool, true, false, List, [], ◌∷◌, Some, Ok, arith}
 use Rattle.std.specs.Prelude.{slice_get, if◌then◌else◌, ◌&&◌, ◌||◌, not}
 use Rattle.ceu_base.specs.declared.kinds.Ty.{Ty}
 use Rattle.ceu_base.specs.declared.kinds.Ty.TheVariants as ty
 use Rattle.ceu_base.specs.declared.kinds.Pos.{Pos}
-use Rattle.ceu_base.specs.declared.kinds.Op1.{Op1}
 use Rattle.ceu_base.specs.declared.kinds.Op2.{Op2}
 use Rattle.ceu_base.specs.declared.kinds.Op2.TheVariants as op2
 use Rattle.ceu_base.specs.Values.{IsValue, is_value, is_bool, of_test, wrapped, applied1, applied2}
@@ -14,16 +13,15 @@ use Rattle.ceu_code.specs.declared.instr.Instr.TheVariants as instr
 use Rattle.ceu_mem.specs.Memory.{size, value_at}
 use Rattle.ceu_isa.specs.declared.registers.Registers.{Registers}
 use Rattle.ceu_isa.specs.Layout.{slots_at, in_slots}
-use Rattle.ceu_isa.specs.Effects.{Effect, provided}
+use Rattle.ceu_isa.specs.Effects.{provided}
 use Rattle.ceu_isa.specs.Cells.{pushed, has_values}
 use Rattle.ceu_isa.specs.Pools.{Life, Unclear, Over, Lives, life_of, told}
 use Rattle.ceu_isa.specs.Rows.{effect}
 use Rattle.ceu_isa.specs.Slots.{load_at}
 use Rattle.ceu_shape.specs.Pieces.{Draft, both, text, placed}
 use Rattle.ceu_shape.specs.Words.{plain, load}
-use Rattle.ceu_shape.specs.Expressions.{two_draft, operator_ty, node_draft, operand_draft, exp_draft}
+use Rattle.ceu_shape.specs.Expressions.{two_draft, operator_ty, node_draft, operand_draft}
 use Rattle.ceu_tree.specs.declared.kernel.Loc.{Loc}
-use Rattle.ceu_tree.specs.declared.kernel.KExp.{KExp}
 use Rattle.ceu_tree.specs.declared.kernel.KExpNode.{KExpNode, Row_of-KExp, end_of-KExp, more_of-KExp, Const, Read, Alive, One', Two', As'}
 use Rattle.ceu_tree.specs.Depth.{node_depth, operand_depth}
 use Rattle.ceu_tree.specs.Expressions.{Answer, number_in, names_living, at, decides, and_then, node_value, operand_value, value_of}
@@ -32,13 +30,12 @@ use Rattle.ceu_tree.specs.Typing.{same_ty, operand_ty, operand_open, fits1, fits
 use Rattle.ceu_tree.specs.World.{World, look, place_of}
 use Rattle.ceu_results.specs.Results.{NodeReads, OperandReads, IsResult}
 use Rattle.ceu_results.proofs.Operators.{and_left, and_right, bool_is, same_is}
-use Rattle.ceu_results.proofs.Results.{node_result, operand_result}
-use Rattle.ceu_evaluates.specs.Does.{Kept}
+use Rattle.ceu_results.proofs.Results.{operand_result}
 use Rattle.ceu_evaluates.specs.Seen.{SaysAlive, VariableSeen, NodeSeen, OperandSeen, NodePlaced, OperandPlaced}
 use Rattle.ceu_evaluates.specs.Laws.{ExpressionsEvaluate}
 use Rattle.ceu_evaluates.proofs.Runs.{Runs, run_one, run_prefix, run_convert, run_binary, run_and, run_or}
 use Rattle.ceu_evaluates.proofs.Steps.{kept_itself}
-use Rattle.ceu_evaluates.proofs.Works.{bool_some, works, Works, works1, Works1}
+use Rattle.ceu_evaluates.proofs.Works.{bool_some, works, works1}
 
 not_none : (t : Ty) → not (same_ty t ty.None) ≡ true → t ≢ ty.None
 not_none t h e = absurd (let z : not (same_ty ty.None ty.None) ≡ true = subst (λ (u : Ty). not (same_ty u ty.None) ≡ true) e h in cc)

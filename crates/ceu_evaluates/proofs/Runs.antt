@@ -1,5 +1,5 @@
 -- What lines that are put together do: an operator behind its operands, and the tests of `and` and `or`.
-use Rattle.std.proofs.Common.{◌≡◌, ◌≢◌, refl, sym, ap, ◌∙◌, subst, inl, inr, ⊎_elim, ◌⊎◌, ◌<◌, ◌≤◌, ◌≤ℤ◌, ◌<ℤ◌, ℕ, ◌+◌, max, ℤ, pos, Bool, true, false, List, [], ◌∷◌, ◌++◌, Option, Some, None, Result, Ok, Err, arith}
+use Rattle.std.proofs.Common.{◌≡◌, ◌≢◌, refl, sym, ap, ◌∙◌, subst, inl, inr, ◌⊎◌, ◌<◌, ◌≤◌, ℕ, ◌+◌, max, ℤ, pos, Bool, true, false, List, [], ◌∷◌, ◌++◌, Option, Some, Result, Ok, Err, arith}
 use Rattle.std.specs.Prelude.{slice_get, if◌then◌else◌, ◌&&◌, ◌||◌, int_le}
 use Rattle.std.proofs.lemmas.Int.{ints}
 use Rattle.ceu_base.specs.declared.kinds.Ty.{Ty}
@@ -9,25 +9,26 @@ use Rattle.ceu_base.specs.declared.kinds.Fault.{Fault}
 use Rattle.ceu_base.specs.declared.kinds.Op1.{Op1}
 use Rattle.ceu_base.specs.declared.kinds.Op2.{Op2}
 use Rattle.ceu_base.specs.declared.kinds.Op2.TheVariants as op2
-use Rattle.ceu_base.specs.Values.{IsValue, same, of_test, wrapped, takes1, takes2, right_type, applied1, applied2}
+use Rattle.ceu_base.specs.Values.{IsValue, same, of_test, wrapped, right_type, applied1, applied2}
 use Rattle.ceu_code.specs.declared.image.Image.{Image}
 use Rattle.ceu_code.specs.declared.instr.Instr.{Instr}
 use Rattle.ceu_code.specs.declared.instr.Instr.TheVariants as instr
 use Rattle.ceu_code.specs.Instructions.{cell, size}
 use Rattle.ceu_asm.specs.declared.line.Line.{Line}
-use Rattle.ceu_asm.specs.declared.line.Line.TheVariants.{Mark, Plain, Jump}
-use Rattle.ceu_asm.specs.Lines.{line_size, code_size}
+use Rattle.ceu_asm.specs.declared.line.Line.TheVariants.{Plain}
+use Rattle.ceu_asm.specs.Lines.{code_size}
 use Rattle.ceu_mem.specs.Bytes.{number_at}
 use Rattle.ceu_isa.specs.declared.registers.Registers.{Registers}
 use Rattle.ceu_isa.specs.Layout.{cell_at}
 use Rattle.ceu_isa.specs.Fetching.{fetched}
-use Rattle.ceu_isa.specs.Effects.{Effect, Goes, Faults, provided, for_some}
+use Rattle.ceu_isa.specs.Effects.{Goes, provided, for_some}
 use Rattle.ceu_isa.specs.Cells.{Popped, popped, pushed, answered, prefixed, combined, has_values}
 use Rattle.ceu_isa.specs.Rows.{effect, in_finalizers}
 use Rattle.ceu_isa.specs.Safety.{Fits}
 use Rattle.ceu_isa.specs.Turns.{behind}
 use Rattle.ceu_fetch.specs.Placed.{Placed}
 use Rattle.ceu_fetch.proofs.Lines.{parts_are_placed}
+use Rattle.ceu_fetch.proofs.Decoded.{some_bytes}
 use Rattle.ceu_shape.specs.Pieces.{Draft, both, text, placed}
 use Rattle.ceu_shape.specs.Words.{mark, plain, goto, goto_if_false}
 use Rattle.ceu_shape.specs.Expressions.{and_draft, or_draft, binary_draft}
@@ -35,8 +36,8 @@ use Rattle.ceu_tree.specs.Expressions.{Answer, at, and_then}
 use Rattle.ceu_results.specs.Results.{IsResult}
 use Rattle.ceu_results.proofs.Ranges.{within}
 use Rattle.ceu_results.proofs.Operators.{and_left, and_right}
-use Rattle.ceu_evaluates.specs.Does.{Does, stays, goes, Fails, Kept, Pushes, Gives}
-use Rattle.ceu_evaluates.proofs.Steps.{does_then, fails_then, kept_itself, kept_then, kept_lower, fits_kept, cell_kept, Pushed, pushes, pops}
+use Rattle.ceu_evaluates.specs.Does.{Does, stays, goes, steps_of, Kept, Pushes, Gives}
+use Rattle.ceu_evaluates.proofs.Steps.{does_then, steps_then, fails_then, fails_before, kept_itself, kept_then, kept_lower, fits_kept, cell_kept, pushes, pops}
 use Rattle.ceu_evaluates.proofs.Works.{Works, Works1, bool_some}
 
 pub code_size-append : (a b : List Line) → code_size (a ++ b) ≡ code_size a + code_size b
@@ -51,21 +52,21 @@ bool_cases v h = go (int_le v (pos 0)) refl
     go false e = let r = within ty.Bool v h in inr (omega (arith, ints, e, r.high))
 
 -- goes on with what was given, or has failed
-pub behind_it : (image : Image) (u : Ty) (r : Registers) (bytes : List ℕ) (mid to : ℕ) (a : Answer) (k : ℤ → Answer) → Gives image r bytes mid a → IsResult u a
+pub behind_it : (image : Image) (u : Ty) (r : Registers) (bytes : List ℕ) (mid to : ℕ) (a : Answer) (k : ℤ → Answer) → mid ≤ to → Gives image r bytes mid a → IsResult u a
     → ((x : ℤ) → IsValue u x → Pushes image r bytes mid x → Gives image r bytes to (k x)) → Gives image r bytes to (and_then a k)
-behind_it image u r bytes mid to (Ok x) k g v f = f x v g
-behind_it image u r bytes mid to (Err e) k g v f = g
+behind_it image u r bytes mid to (Ok x) k le g v f = f x v g
+behind_it image u r bytes mid to (Err e) k le g v f = fails_before image mid to e.0 e.1 le g
 
 gives_at : (image : Image) (r : Registers) (bytes : List ℕ) (a : Answer) (m n : ℕ) → m ≡ n → Gives image r bytes m a → Gives image r bytes n a
 gives_at image r bytes a m n e g = subst (λ (k : ℕ). Gives image r bytes k a) e g
 
 -- an instruction that pushes a result, or faults, behind what was done before it
-finish : (image : Image) (r q : Registers) (bytes there : List ℕ) (i : Instr) (p : Pos) (result : Result ℤ Fault) → Does image r bytes q there → Kept image r.depth bytes there → Fits image there → r.depth < image.depth
+finish : (image : Image) (r q : Registers) (bytes there : List ℕ) (i : Instr) (p : Pos) (result : Result ℤ Fault) (does : Does image r bytes q there) → steps_of does + r.at ≤ q.at → Kept image r.depth bytes there → Fits image there → r.depth < image.depth
     → fetched image q.at ≡ Some i → in_finalizers i ≡ true → effect image i (behind i q) there ≡ answered image p result (record r { at = q.at + size i }) there → Gives image r bytes (q.at + size i) (at p result)
-finish image r q bytes there i p (Ok v) does kept fits room f m e =
+finish image r q bytes there i p (Ok v) does few kept fits room f m e =
     let x = pushes image (record r { at = q.at + size i }) there v fits room in
-    record { after = x.after; does = does_then image does (goes i f m (e ∙ x.is) stays); kept = kept_then image r.depth r.depth bytes there x.after (omega arith) kept x.kept; holds = x.holds }
-finish image r q bytes there i p (Err f') does kept fits room f m e = record { at = q; there = there; does = does; last = i; last_is = f; last_may = m; faults = e }
+    record { after = x.after; does = does_then image does (goes i f m (e ∙ x.is) stays); few = omega (arith, few, some_bytes i, steps_then image does (goes i f m (e ∙ x.is) stays)); kept = kept_then image r.depth r.depth bytes there x.after (omega arith) kept x.kept; holds = x.holds }
+finish image r q bytes there i p (Err f') does few kept fits room f m e = record { at = q; there = there; does = does; few = omega (arith, few, some_bytes i); last = i; last_is = f; last_may = m; faults = e }
 
 -- what an operator does with what was pushed, the top cell being number d
 prefix_effect : (image : Image) (op : Op1) (t a : Ty) (p : Pos) (n : ℕ) (x : ℤ) (s : Registers) (d : ℕ) (m : List ℕ) → Works1 op t a → slice_get image.places n ≡ Some p → IsValue a x → number_at 8 m (cell_at d) ≡ cell x → d < image.depth → s.depth ≡ d + 1
@@ -122,7 +123,7 @@ module _ (image : Image) (labels : ℕ → ℕ) (number : Pos → ℕ) (frame : 
       let x = pushes image (behind i r) bytes v fits (omega arith) in
       let e = does (behind i r) bytes f (sees bytes (kept_itself image 0 bytes)) in
       gives_at image r bytes (Ok v) (r.at + size i) (r.at + (size i + 0)) (omega arith)
-      (record { after = x.after; does = goes i there.0 m (e ∙ x.is) stays; kept = x.kept; holds = x.holds })
+      (record { after = x.after; does = goes i there.0 m (e ∙ x.is) stays; few = omega (arith, some_bytes i); kept = x.kept; holds = x.holds })
 
   pub run_prefix : (op : Op1) (t a : Ty) (p : Pos) (d : Draft) (seen : List ℕ → Type 0) (deep : ℕ) (answer : Answer) → Works1 op t a → IsResult a answer → slice_get image.places (number p) ≡ Some p
       → Runs d seen deep answer → Runs (both d (placed p (λ n. plain (instr.Prefix op t n) ∷ []))) seen (max deep 1) (and_then answer (λ x. at p (applied1 op t x)))
@@ -133,9 +134,9 @@ module _ (image : Image) (labels : ℕ → ℕ) (number : Pos → ℕ) (frame : 
       let mid : ℕ = r.at + code_size ((d fresh).lines number) in
       let end : mid + size i ≡ r.at + code_size ((d fresh).lines number ++ (Plain (instr.Prefix op t (number p)) ∷ [])) = omega (arith, code_size-append ((d fresh).lines number) (Plain (instr.Prefix op t (number p)) ∷ [])) in
       gives_at image r bytes (and_then answer (λ x. at p (applied1 op t x))) (mid + size i) (r.at + code_size ((d fresh).lines number ++ (Plain (instr.Prefix op t (number p)) ∷ []))) end
-      (behind_it image a r bytes mid (mid + size i) answer (λ x. at p (applied1 op t x)) (run fresh r bytes f fits sees parts.0 (omega arith)) result
+      (behind_it image a r bytes mid (mid + size i) answer (λ x. at p (applied1 op t x)) (omega arith) (run fresh r bytes f fits sees parts.0 (omega arith)) result
       (λ x v g.
-      finish image r (record r { at = mid; depth = r.depth + 1 }) bytes g.after i p (applied1 op t x) g.does g.kept (fits_kept image r.depth bytes g.after g.kept fits) (omega arith) parts.1.0 refl
+      finish image r (record r { at = mid; depth = r.depth + 1 }) bytes g.after i p (applied1 op t x) g.does g.few g.kept (fits_kept image r.depth bytes g.after g.kept fits) (omega arith) parts.1.0 refl
       (prefix_effect image op t a p (number p) x (behind i (record r { at = mid; depth = r.depth + 1 })) r.depth g.after works place v g.holds (omega arith) refl)))
 
   pub run_convert : (t u : Ty) (d : Draft) (seen : List ℕ → Type 0) (deep : ℕ) (answer : Answer) → t ≢ ty.None → has_values u ≡ true → IsResult t answer
@@ -146,9 +147,9 @@ module _ (image : Image) (labels : ℕ → ℕ) (number : Pos → ℕ) (frame : 
       let mid : ℕ = r.at + code_size ((d fresh).lines number) in
       let end : mid + size i ≡ r.at + code_size ((d fresh).lines number ++ (Plain (instr.Convert t u) ∷ [])) = omega (arith, code_size-append ((d fresh).lines number) (Plain (instr.Convert t u) ∷ [])) in
       gives_at image r bytes (and_then answer (λ x. Ok (wrapped u x))) (mid + size i) (r.at + code_size ((d fresh).lines number ++ (Plain (instr.Convert t u) ∷ []))) end
-      (behind_it image t r bytes mid (mid + size i) answer (λ x. Ok (wrapped u x)) (run fresh r bytes f fits sees parts.0 (omega arith)) result
+      (behind_it image t r bytes mid (mid + size i) answer (λ x. Ok (wrapped u x)) (omega arith) (run fresh r bytes f fits sees parts.0 (omega arith)) result
       (λ x v g.
-      finish image r (record r { at = mid; depth = r.depth + 1 }) bytes g.after i (record { line = 1; col = 1 }) (Ok (wrapped u x)) g.does g.kept (fits_kept image r.depth bytes g.after g.kept fits) (omega arith) parts.1.0 refl
+      finish image r (record r { at = mid; depth = r.depth + 1 }) bytes g.after i (record { line = 1; col = 1 }) (Ok (wrapped u x)) g.does g.few g.kept (fits_kept image r.depth bytes g.after g.kept fits) (omega arith) parts.1.0 refl
       (convert_effect image t u x (behind i (record r { at = mid; depth = r.depth + 1 })) r.depth g.after some has v g.holds (omega arith) refl)))
 
   pub run_binary : (op : Op2) (t a b u : Ty) (p : Pos) (d e : Draft) (left right : List ℕ → Type 0) (m n : ℕ) (x y : Answer) → Works op t a b u → 1 ≤ n → IsResult a x → IsResult b y → slice_get image.places (number p) ≡ Some p
@@ -164,23 +165,23 @@ module _ (image : Image) (labels : ℕ → ℕ) (number : Pos → ℕ) (frame : 
       let end : far + size i ≡ r.at + code_size ((d fresh).lines number ++ ((e (d fresh).next).lines number ++ (Plain (instr.Binary op u (number p)) ∷ []))) =
       omega (arith, code_size-append ((d fresh).lines number) ((e (d fresh).next).lines number ++ (Plain (instr.Binary op u (number p)) ∷ [])), code_size-append ((e (d fresh).next).lines number) (Plain (instr.Binary op u (number p)) ∷ [])) in
       gives_at image r bytes (and_then x (λ v. and_then y (λ w. at p (applied2 op t v w)))) (far + size i) (r.at + code_size ((d fresh).lines number ++ ((e (d fresh).next).lines number ++ (Plain (instr.Binary op u (number p)) ∷ [])))) end
-      (behind_it image a r bytes mid (far + size i) x (λ v. and_then y (λ w. at p (applied2 op t v w))) (rd fresh r bytes f fits (λ later k. (sees later k).0) one.0 (omega arith)) rx
+      (behind_it image a r bytes mid (far + size i) x (λ v. and_then y (λ w. at p (applied2 op t v w))) (omega arith) (rd fresh r bytes f fits (λ later k. (sees later k).0) one.0 (omega arith)) rx
       (λ v vx g.
       let q : Registers = record r { at = mid; depth = r.depth + 1 } in
       let fits2 = fits_kept image r.depth bytes g.after g.kept fits in
       let run = re (d fresh).next (record r { at = mid; depth = r.depth + 1 }) g.after f fits2 (seen_behind right r.depth bytes g.after g.kept (λ later k. (sees later k).1)) two.0 (omega arith) in
-      second v vx g (far + size i) y run ry (λ w wy h.
+      second v vx g (far + size i) y (omega arith) run ry (λ w wy h.
       let both = kept_then image r.depth (r.depth + 1) bytes g.after h.after (omega arith) g.kept h.kept in
-      finish image r (record r { at = far; depth = r.depth + 1 + 1 }) bytes h.after i p (applied2 op t v w) (does_then image g.does h.does) both (fits_kept image r.depth bytes h.after both fits) (omega arith) two.1.0 refl
+      finish image r (record r { at = far; depth = r.depth + 1 + 1 }) bytes h.after i p (applied2 op t v w) (does_then image g.does h.does) (omega (arith, steps_then image g.does h.does, g.few, h.few)) both (fits_kept image r.depth bytes h.after both fits) (omega arith) two.1.0 refl
       (binary_effect image op t a b u p (number p) v w (behind i (record r { at = far; depth = r.depth + 1 + 1 })) r.depth h.after works place vx wy (cell_kept image r.depth (r.depth + 1) g.after h.after (omega arith) h.kept ∙ g.holds) h.holds (omega arith) refl))))
     where
       -- behind the left operand: the right one gives a value, or fails
-      second : (v : ℤ) → IsValue a v → (g : Pushes image r bytes (r.at + code_size ((d fresh).lines number)) v) → (to : ℕ) → (z : Answer)
+      second : (v : ℤ) → IsValue a v → (g : Pushes image r bytes (r.at + code_size ((d fresh).lines number)) v) → (to : ℕ) → (z : Answer) → r.at + code_size ((d fresh).lines number) + code_size ((e (d fresh).next).lines number) ≤ to
           → Gives image (record r { at = r.at + code_size ((d fresh).lines number); depth = r.depth + 1 }) g.after (r.at + code_size ((d fresh).lines number) + code_size ((e (d fresh).next).lines number)) z → IsResult b z
           → ((w : ℤ) → IsValue b w → Pushes image (record r { at = r.at + code_size ((d fresh).lines number); depth = r.depth + 1 }) g.after (r.at + code_size ((d fresh).lines number) + code_size ((e (d fresh).next).lines number)) w → Gives image r bytes to (at p (applied2 op t v w)))
           → Gives image r bytes to (and_then z (λ w. at p (applied2 op t v w)))
-      second v vx g to (Ok w) run rz k = k w rz run
-      second v vx g to (Err z) run rz k = fails_then image z.0 z.1 g.does run
+      second v vx g to (Ok w) le run rz k = k w rz run
+      second v vx g to (Err z) le run rz k = fails_then image to z.0 z.1 g.does g.few (fails_before image (r.at + code_size ((d fresh).lines number) + code_size ((e (d fresh).next).lines number)) to z.0 z.1 le run)
 
   -- ---- `and`, `or`: the right operand is asked only where the left one doesn't decide
 
@@ -194,27 +195,37 @@ module _ (image : Image) (labels : ℕ → ℕ) (number : Pos → ℕ) (frame : 
   unfolding effect
   push_step r m v fits lt f =
       let x = pushes image (record r { at = r.at + 10 }) m v fits lt in
-      record { after = x.after; does = goes (instr.Push ty.Bool v) f refl x.is stays; kept = x.kept; holds = x.holds }
+      record { after = x.after; does = goes (instr.Push ty.Bool v) f refl x.is stays; few = omega arith; kept = x.kept; holds = x.holds }
 
   -- what was done first, and then a push from the same cell on
-  first_then : (r q : Registers) (a b : List ℕ) (to : ℕ) (v : ℤ) → Does image r a (record r { at = q.at }) b → Kept image r.depth a b → Pushes image (record r { at = q.at }) b to v → Pushes image r a to v
-  first_then r q a b to v d k p = record { after = p.after; does = does_then image d p.does; kept = kept_then image r.depth r.depth a b p.after (omega arith) k p.kept; holds = p.holds }
+  first_then : (r q : Registers) (a b : List ℕ) (to : ℕ) (v : ℤ) (d : Does image r a (record r { at = q.at }) b) → steps_of d + r.at ≤ q.at → Kept image r.depth a b → Pushes image (record r { at = q.at }) b to v → Pushes image r a to v
+  first_then r q a b to v d few k p = record { after = p.after; does = does_then image d p.does; few = omega (arith, few, p.few, steps_then image d p.does); kept = kept_then image r.depth r.depth a b p.after (omega arith) k p.kept; holds = p.holds }
 
   -- a push, and then a jump
-  then_jump : (r : Registers) (a : List ℕ) (mid to : ℕ) (v : ℤ) → Pushes image r a mid v → fetched image mid ≡ Some (instr.Jump to) → Pushes image r a to v
-  then_jump r a mid to v p f = record { after = p.after; does = does_then image p.does (jump_step (record r { at = mid; depth = r.depth + 1 }) p.after to f); kept = p.kept; holds = p.holds }
+  then_jump : (r : Registers) (a : List ℕ) (mid to : ℕ) (v : ℤ) → mid < to → Pushes image r a mid v → fetched image mid ≡ Some (instr.Jump to) → Pushes image r a to v
+  unfolding jump_step
+  then_jump r a mid to v lt p f = record { after = p.after; does = does_then image p.does (jump_step (record r { at = mid; depth = r.depth + 1 }) p.after to f); few = omega (arith, p.few, steps_then image p.does (jump_step (record r { at = mid; depth = r.depth + 1 }) p.after to f)); kept = p.kept; holds = p.holds }
 
   same_zero : same (pos 0) (pos 0) ≡ true
   same_zero = refl
 
+  -- what was done up to a place, in few steps
+  record Came (r : Registers) (bytes : List ℕ) (q : Registers) (after : List ℕ) (most : ℕ) : Type 0 where
+    pub does : Does image r bytes q after
+    pub few : steps_of does + r.at ≤ most
+
   -- behind the left operand the trail stands at the test: where its value is false it goes to a place, else on
   tested : (r : Registers) (bytes : List ℕ) (mid to : ℕ) (x : ℤ) (b : Bool) → IsValue ty.Bool x → same x (pos 0) ≡ b → r.depth < image.depth → fetched image mid ≡ Some (instr.JumpIfFalse to)
-      → (g : Pushes image r bytes mid x) → Does image r bytes (record r { at = if b then to else (mid + 3) }) g.after
+      → (g : Pushes image r bytes mid x) → Came r bytes (record r { at = if b then to else (mid + 3) }) g.after (mid + 1)
   tested r bytes mid to x b v e lt f g =
       let s : Registers = behind (instr.JumpIfFalse to) (record r { at = mid; depth = r.depth + 1 }) in
-      does_then image g.does (goes (instr.JumpIfFalse to) f refl
-      (test_effect image to x (behind (instr.JumpIfFalse to) (record r { at = mid; depth = r.depth + 1 })) r.depth g.after v g.holds lt refl
-      ∙ ap (λ (z : Bool). Goes (if z then record r { at = to } else record r { at = mid + 3 }) g.after []) e ∙ pick b) stays)
+      let e =
+      test_effect image to x (behind (instr.JumpIfFalse to) (record r { at = mid; depth = r.depth + 1 })) r.depth g.after v g.holds lt refl
+      ∙ ap (λ (z : Bool). Goes (if z then record r { at = to } else record r { at = mid + 3 }) g.after []) e ∙ pick b in
+      record {
+        does = does_then image g.does (goes (instr.JumpIfFalse to) f refl e stays);
+        few = omega (arith, g.few, steps_then image g.does (goes (instr.JumpIfFalse to) f refl e stays));
+      }
     where
       pick : (z : Bool) → Goes (if z then record r { at = to } else record r { at = mid + 3 }) g.after [] ≡ Goes (record r { at = if z then to else (mid + 3) }) g.after []
       pick true = refl
@@ -231,12 +242,12 @@ module _ (image : Image) (labels : ℕ → ℕ) (number : Pos → ℕ) (frame : 
   and_true v w e h = subst (λ (k : ℤ). w ≡ of_test (same k (pos 1) && same w (pos 1))) (sym e) (elim (bool_cases w h) [ inl z ↦ subst (λ (k : ℤ). k ≡ of_test (same (pos 1) (pos 1) && same k (pos 1))) (sym z) refl | inr z ↦ subst (λ (k : ℤ). k ≡ of_test (same (pos 1) (pos 1) && same k (pos 1))) (sym z) refl ])
 
   -- the right operand, from a place that was reached
-  from_there : (r : Registers) (bytes m : List ℕ) (at_right far to : ℕ) (y : Answer) (k : ℤ → ℤ) → Does image r bytes (record r { at = at_right }) m → Kept image r.depth bytes m → fetched image far ≡ Some (instr.Jump to) → (p : Pos)
+  from_there : (r : Registers) (bytes m : List ℕ) (at_right far to : ℕ) (y : Answer) (k : ℤ → ℤ) (d : Does image r bytes (record r { at = at_right }) m) → steps_of d + r.at ≤ at_right → far < to → Kept image r.depth bytes m → fetched image far ≡ Some (instr.Jump to) → (p : Pos)
       → ((w : ℤ) → IsValue ty.Bool w → w ≡ k w) → IsResult ty.Bool y → Gives image (record r { at = at_right }) m far y → Gives image r bytes to (and_then y (λ w. at p (Ok (k w))))
-  from_there r bytes m at_right far to (Ok w) k d kept f p same h g =
-      let x = then_jump r bytes far to w (first_then r (record r { at = at_right }) bytes m far w d kept g) f in
+  from_there r bytes m at_right far to (Ok w) k d few lt kept f p same h g =
+      let x = then_jump r bytes far to w lt (first_then r (record r { at = at_right }) bytes m far w d few kept g) f in
       subst (λ (v : ℤ). Pushes image r bytes to v) (same w h) x
-  from_there r bytes m at_right far to (Err z) k d kept f p same h g = fails_then image z.0 z.1 d g
+  from_there r bytes m at_right far to (Err z) k d few lt kept f p same h g = fails_then image to z.0 z.1 d few (fails_before image far to z.0 z.1 (omega arith) g)
 
   pub run_and : (t : Ty) (p : Pos) (d e : Draft) (left right : List ℕ → Type 0) (m n : ℕ) (x y : Answer) → 1 ≤ m → IsResult ty.Bool x → IsResult ty.Bool y
       → Runs d left m x → Runs e right n y → Runs (and_draft d e) (λ bs. left bs × right bs) (max m (1 + n)) (and_then x (λ v. if same v (pos 0) then Ok v else and_then y (λ w. at p (applied2 op2.And t v w))))
@@ -252,7 +263,7 @@ module _ (image : Image) (labels : ℕ → ℕ) (number : Pos → ℕ) (frame : 
       let end : labels (fresh + 1) ≡ r.at + code_size ((d (fresh + 2)).lines number ++ (goto_if_false fresh ∷ ((e (d (fresh + 2)).next).lines number ++ (goto (fresh + 1) ∷ mark fresh ∷ plain (instr.Push ty.Bool (pos 0)) ∷ mark (fresh + 1) ∷ [])))) =
       omega (arith, two.1.1.1.1.0, code_size-append ((d (fresh + 2)).lines number) (goto_if_false fresh ∷ ((e (d (fresh + 2)).next).lines number ++ (goto (fresh + 1) ∷ mark fresh ∷ plain (instr.Push ty.Bool (pos 0)) ∷ mark (fresh + 1) ∷ []))), code_size-append ((e (d (fresh + 2)).next).lines number) (goto (fresh + 1) ∷ mark fresh ∷ plain (instr.Push ty.Bool (pos 0)) ∷ mark (fresh + 1) ∷ [])) in
       gives_at image r bytes (and_then x (λ v. if same v (pos 0) then Ok v else and_then y (λ w. at p (applied2 op2.And t v w)))) (labels (fresh + 1)) _ end
-      (behind_it image ty.Bool r bytes mid (labels (fresh + 1)) x (λ v. if same v (pos 0) then Ok v else and_then y (λ w. at p (applied2 op2.And t v w))) (rd (fresh + 2) r bytes f fits (λ later k. (sees later k).0) one.0 (omega arith)) rx
+      (behind_it image ty.Bool r bytes mid (labels (fresh + 1)) x (λ v. if same v (pos 0) then Ok v else and_then y (λ w. at p (applied2 op2.And t v w))) (omega (arith, two.1.1.1.1.0)) (rd (fresh + 2) r bytes f fits (λ later k. (sees later k).0) one.0 (omega arith)) rx
       (λ v vx g. by_test (same v (pos 0)) v refl vx g one.1.0 two.1 (fits_kept image r.depth bytes g.after g.kept fits)
       (re (d (fresh + 2)).next (record r { at = mid + 3 }) g.after f (fits_kept image r.depth bytes g.after g.kept fits) (seen_behind right r.depth bytes g.after g.kept (λ later k. (sees later k).1)) two.0 (omega arith)) ry))
     where
@@ -270,13 +281,13 @@ module _ (image : Image) (labels : ℕ → ℕ) (number : Pos → ℕ) (frame : 
       by_test true v s vx g test tail fits3 run ry3 =
           let go = tested r bytes (r.at + code_size ((d (fresh + 2)).lines number)) (labels fresh) v true vx s (omega arith) test g in
           let push = push_step (record r { at = labels fresh }) g.after (pos 0) fits3 (omega arith) (ap (fetched image) tail.1.0 ∙ tail.1.1.0) in
-          let done = first_then r (record r { at = labels fresh }) bytes g.after (labels fresh + 10) (pos 0) go g.kept push in
+          let done = first_then r (record r { at = labels fresh }) bytes g.after (labels fresh + 10) (pos 0) go.does (omega (arith, go.few, tail.1.0)) g.kept push in
           let there : labels fresh + 10 ≡ labels (fresh + 1) = omega (arith, tail.1.0, tail.1.1.1.0) in
           subst (λ (k : ℤ). Pushes image r bytes (labels (fresh + 1)) k) (and_false v s) (subst (λ (k : ℕ). Pushes image r bytes k (pos 0)) there done)
       by_test false v s vx g test tail fits3 run ry3 =
           let go = tested r bytes (r.at + code_size ((d (fresh + 2)).lines number)) (labels fresh) v false vx s (omega arith) test g in
           from_there r bytes g.after (r.at + code_size ((d (fresh + 2)).lines number) + 3) (r.at + code_size ((d (fresh + 2)).lines number) + 3 + code_size ((e (d (fresh + 2)).next).lines number)) (labels (fresh + 1)) y
-          (λ w. of_test (same v (pos 1) && same w (pos 1))) go g.kept tail.0 p (λ w h. and_true v w (true_is v vx s) h) ry3 run
+          (λ w. of_test (same v (pos 1) && same w (pos 1))) go.does (omega (arith, go.few)) (omega (arith, tail.1.0, tail.1.1.1.0)) g.kept tail.0 p (λ w h. and_true v w (true_is v vx s) h) ry3 run
 
   -- of `or` where the left operand is true, and where it is false
   or_true : (v : ℤ) → IsValue ty.Bool v → same v (pos 0) ≡ false → same v (pos 1) ≡ true
@@ -286,10 +297,10 @@ module _ (image : Image) (labels : ℕ → ℕ) (number : Pos → ℕ) (frame : 
   or_false v w e h = subst (λ (k : ℤ). w ≡ of_test (same k (pos 1) || same w (pos 1))) (and_false v e) (elim (bool_cases w h) [ inl z ↦ subst (λ (k : ℤ). k ≡ of_test (same (pos 0) (pos 1) || same k (pos 1))) (sym z) refl | inr z ↦ subst (λ (k : ℤ). k ≡ of_test (same (pos 0) (pos 1) || same k (pos 1))) (sym z) refl ])
 
   -- the right operand at the end of the lines
-  from_here : (r : Registers) (bytes m : List ℕ) (at_right to : ℕ) (y : Answer) (k : ℤ → ℤ) → Does image r bytes (record r { at = at_right }) m → Kept image r.depth bytes m → (p : Pos)
+  from_here : (r : Registers) (bytes m : List ℕ) (at_right to : ℕ) (y : Answer) (k : ℤ → ℤ) (d : Does image r bytes (record r { at = at_right }) m) → steps_of d + r.at ≤ at_right → Kept image r.depth bytes m → (p : Pos)
       → ((w : ℤ) → IsValue ty.Bool w → w ≡ k w) → IsResult ty.Bool y → Gives image (record r { at = at_right }) m to y → Gives image r bytes to (and_then y (λ w. at p (Ok (k w))))
-  from_here r bytes m at_right to (Ok w) k d kept p same h g = subst (λ (v : ℤ). Pushes image r bytes to v) (same w h) (first_then r (record r { at = at_right }) bytes m to w d kept g)
-  from_here r bytes m at_right to (Err z) k d kept p same h g = fails_then image z.0 z.1 d g
+  from_here r bytes m at_right to (Ok w) k d few kept p same h g = subst (λ (v : ℤ). Pushes image r bytes to v) (same w h) (first_then r (record r { at = at_right }) bytes m to w d few kept g)
+  from_here r bytes m at_right to (Err z) k d few kept p same h g = fails_then image to z.0 z.1 d few g
 
   -- the value of `or` by whether the left operand is false
   by_left : (t : Ty) (p : Pos) (v : ℤ) (y : Answer) → IsValue ty.Bool v → (b : Bool) → same v (pos 0) ≡ b → (to : ℕ) (r : Registers) (bytes : List ℕ)
@@ -309,7 +320,7 @@ module _ (image : Image) (labels : ℕ → ℕ) (number : Pos → ℕ) (frame : 
       let end : labels (fresh + 1) ≡ r.at + code_size ((d (fresh + 2)).lines number ++ (goto_if_false fresh ∷ plain (instr.Push ty.Bool (pos 1)) ∷ goto (fresh + 1) ∷ mark fresh ∷ ((e (d (fresh + 2)).next).lines number ++ (mark (fresh + 1) ∷ [])))) =
       omega (arith, two.1.0, code_size-append ((d (fresh + 2)).lines number) (goto_if_false fresh ∷ plain (instr.Push ty.Bool (pos 1)) ∷ goto (fresh + 1) ∷ mark fresh ∷ ((e (d (fresh + 2)).next).lines number ++ (mark (fresh + 1) ∷ []))), code_size-append ((e (d (fresh + 2)).next).lines number) (mark (fresh + 1) ∷ [])) in
       gives_at image r bytes (and_then x (λ v. if same v (pos 1) then Ok v else and_then y (λ w. at p (applied2 op2.Or t v w)))) (labels (fresh + 1)) _ end
-      (behind_it image ty.Bool r bytes mid (labels (fresh + 1)) x (λ v. if same v (pos 1) then Ok v else and_then y (λ w. at p (applied2 op2.Or t v w))) (rd (fresh + 2) r bytes f fits (λ later k. (sees later k).0) one.0 (omega arith)) rx
+      (behind_it image ty.Bool r bytes mid (labels (fresh + 1)) x (λ v. if same v (pos 1) then Ok v else and_then y (λ w. at p (applied2 op2.Or t v w))) (omega (arith, two.1.0)) (rd (fresh + 2) r bytes f fits (λ later k. (sees later k).0) one.0 (omega arith)) rx
       (λ v vx g.
       by_left t p v y vx (same v (pos 0)) refl (labels (fresh + 1)) r bytes
       (by_test (same v (pos 0)) v refl vx g one.1.0 one.1.1.0 one.1.1.1.0 one.1.1.1.1.0 two.1.0 (fits_kept image r.depth bytes g.after g.kept fits)
@@ -325,12 +336,12 @@ module _ (image : Image) (labels : ℕ → ℕ) (number : Pos → ℕ) (frame : 
           → Gives image r bytes (labels (fresh + 1)) (if b then and_then y (λ w. at p (applied2 op2.Or t v w)) else Ok v)
       by_test true v s vx g test push jump place end fits3 run ry3 =
           let go = tested r bytes (r.at + code_size ((d (fresh + 2)).lines number)) (labels fresh) v true vx s (omega arith) test g in
-          let moved : Does image r bytes (record r { at = r.at + code_size ((d (fresh + 2)).lines number) + 3 + 10 + 3 }) g.after = subst (λ (k : ℕ). Does image r bytes (record r { at = k }) g.after) place go in
-          from_here r bytes g.after (r.at + code_size ((d (fresh + 2)).lines number) + 3 + 10 + 3) (labels (fresh + 1)) y (λ w. of_test (same v (pos 1) || same w (pos 1))) moved g.kept p (λ w h. or_false v w s h) ry3
+          let moved : Came r bytes (record r { at = r.at + code_size ((d (fresh + 2)).lines number) + 3 + 10 + 3 }) g.after (r.at + code_size ((d (fresh + 2)).lines number) + 1) = subst (λ (k : ℕ). Came r bytes (record r { at = k }) g.after (r.at + code_size ((d (fresh + 2)).lines number) + 1)) place go in
+          from_here r bytes g.after (r.at + code_size ((d (fresh + 2)).lines number) + 3 + 10 + 3) (labels (fresh + 1)) y (λ w. of_test (same v (pos 1) || same w (pos 1))) moved.does (omega (arith, moved.few)) g.kept p (λ w h. or_false v w s h) ry3
           (subst (λ (k : ℕ). Gives image (record r { at = r.at + code_size ((d (fresh + 2)).lines number) + 3 + 10 + 3 }) g.after k y) (sym end) run)
       by_test false v s vx g test push jump place end fits3 run ry3 =
           let go = tested r bytes (r.at + code_size ((d (fresh + 2)).lines number)) (labels fresh) v false vx s (omega arith) test g in
           let pushed1 = push_step (record r { at = r.at + code_size ((d (fresh + 2)).lines number) + 3 }) g.after (pos 1) fits3 (omega arith) push in
-          let done = then_jump r bytes (r.at + code_size ((d (fresh + 2)).lines number) + 3 + 10) (labels (fresh + 1)) (pos 1)
-          (first_then r (record r { at = r.at + code_size ((d (fresh + 2)).lines number) + 3 }) bytes g.after (r.at + code_size ((d (fresh + 2)).lines number) + 3 + 10) (pos 1) go g.kept pushed1) jump in
+          let done = then_jump r bytes (r.at + code_size ((d (fresh + 2)).lines number) + 3 + 10) (labels (fresh + 1)) (pos 1) (omega (arith, place, end))
+          (first_then r (record r { at = r.at + code_size ((d (fresh + 2)).lines number) + 3 }) bytes g.after (r.at + code_size ((d (fresh + 2)).lines number) + 3 + 10) (pos 1) go.does (omega (arith, go.few)) g.kept pushed1) jump in
           subst (λ (k : ℤ). Pushes image r bytes (labels (fresh + 1)) k) (sym (true_is v vx s)) done

@@ -1,6 +1,6 @@
 -- Steps one behind the other, what they leave as it was, and cells that are pushed and popped.
-use Rattle.std.proofs.Common.{◌≡◌, ◌≢◌, refl, sym, ap, ◌∙◌, subst, ◌<◌, ◌≤◌, ◌⊎◌, inl, inr, ⊎_elim, ℕ, ◌+◌, ◌-◌, ◌*◌, ◌^◌, ℤ, Bool, true, false, List, [], length, Option, Some, None, arith}
-use Rattle.std.specs.Prelude.{slice_index, nat_lt, nat_le, if◌then◌else◌, ◌&&◌}
+use Rattle.std.proofs.Common.{◌≡◌, ◌≢◌, refl, ap, ◌∙◌, ◌<◌, ◌≤◌, inl, inr, ⊎_elim, ℕ, ◌+◌, ◌-◌, ℤ, Bool, true, false, List, [], length, Option, Some, None, arith}
+use Rattle.std.specs.Prelude.{nat_le, if◌then◌else◌, ◌&&◌}
 use Rattle.std.proofs.lemmas.Bool.{lt-ltb, le-leb}
 use Rattle.ceu_base.specs.declared.kinds.Ty.{Ty}
 use Rattle.ceu_base.specs.declared.kinds.Ty.TheVariants as ty
@@ -8,29 +8,46 @@ use Rattle.ceu_base.specs.declared.kinds.Fault.{Fault}
 use Rattle.ceu_base.specs.declared.kinds.Pos.{Pos}
 use Rattle.ceu_base.specs.Values.{is_signed, is_value, IsValue}
 use Rattle.ceu_code.specs.declared.image.Image.{Image}
-use Rattle.ceu_code.specs.declared.instr.Instr.{Instr}
-use Rattle.ceu_code.specs.Instructions.{cell, size}
+use Rattle.ceu_code.specs.Instructions.{cell}
 use Rattle.ceu_mem.specs.Bytes.{number_at, with_number}
 use Rattle.ceu_mem.specs.Memory.{value_at, with_sign, size as bytes_of}
 use Rattle.ceu_mem.proofs.Views.{length-with_number, byte_outside, number_written}
 use Rattle.ceu_isa.specs.declared.registers.Registers.{Registers}
-use Rattle.ceu_isa.specs.Layout.{cell_at, gates_at, end_of}
-use Rattle.ceu_isa.specs.Fetching.{fetched, cell_type}
-use Rattle.ceu_isa.specs.Effects.{Effect, Goes, Faults, provided}
-use Rattle.ceu_isa.specs.Cells.{Popped, has_top, top_value, below, popped, pushed}
-use Rattle.ceu_isa.specs.Rows.{effect, in_finalizers}
+use Rattle.ceu_isa.specs.Layout.{cell_at}
+use Rattle.ceu_isa.specs.Fetching.{cell_type}
+use Rattle.ceu_isa.specs.Effects.{Goes, provided}
+use Rattle.ceu_isa.specs.Cells.{Popped, has_top, top_value, popped, pushed}
 use Rattle.ceu_isa.specs.Safety.{Fits}
-use Rattle.ceu_isa.specs.Turns.{behind}
 use Rattle.ceu_fetch.proofs.Constants.{cell_small, constant_back}
-use Rattle.ceu_evaluates.specs.Does.{Does, stays, goes, Fails, Kept, Pushes}
+use Rattle.ceu_evaluates.specs.Does.{Does, stays, goes, steps_of, Fails, Kept}
 use Rattle.ceu_evaluates.proofs.Numbers.{number_agrees}
 
 pub does_then : (image : Image) {r q s : Registers} {a b c : List ℕ} → Does image r a q b → Does image q b s c → Does image r a s c
 does_then image stays y = y
 does_then image (goes i f m e x) y = goes i f m e (does_then image x y)
 
-pub fails_then : (image : Image) {r q : Registers} {a b : List ℕ} (fault : Fault) (place : Pos) → Does image r a q b → Fails image q b fault place → Fails image r a fault place
-fails_then image fault place x y = record { at = y.at; there = y.there; does = does_then image x y.does; last = y.last; last_is = y.last_is; last_may = y.last_may; faults = y.faults }
+pub steps_then : (image : Image) {r q s : Registers} {a b c : List ℕ} (x : Does image r a q b) (y : Does image q b s c) → steps_of (does_then image x y) ≡ steps_of x + steps_of y
+unfolding does_then
+steps_then image stays y = omega arith
+steps_then image (goes i f m e x) y = let h = steps_then image x y in omega (arith, h)
+
+pub fails_then : (image : Image) {r q : Registers} {a b : List ℕ} (to : ℕ) (fault : Fault) (place : Pos) (x : Does image r a q b) → steps_of x + r.at ≤ q.at → Fails image q b to fault place → Fails image r a to fault place
+fails_then image to fault place x le y =
+    record {
+      at = y.at;
+      there = y.there;
+      does = does_then image x y.does;
+      few = omega (arith, steps_then image x y.does, y.few);
+      last = y.last;
+      last_is = y.last_is;
+      last_may = y.last_may;
+      faults = y.faults;
+    }
+
+-- before an offset further on
+pub fails_before : (image : Image) {r : Registers} {a : List ℕ} (mid to : ℕ) (fault : Fault) (place : Pos) → mid ≤ to → Fails image r a mid fault place → Fails image r a to fault place
+fails_before image mid to fault place le y =
+    record { at = y.at; there = y.there; does = y.does; few = omega (arith, y.few); last = y.last; last_is = y.last_is; last_may = y.last_may; faults = y.faults }
 
 -- ---- what is kept
 

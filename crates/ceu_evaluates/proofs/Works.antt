@@ -1,5 +1,5 @@
 -- In which type the machine works for a binary operator: it holds the values of both operands, and the operator gives the same in it.
-use Rattle.std.proofs.Common.{◌≡◌, ◌≢◌, refl, sym, ap, ◌∙◌, subst, inl, inr, ◌≤ℤ◌, ◌<ℤ◌, ℕ, ℤ, pos, Bool, true, false, List, [], ◌∷◌, Option, Some, None, arith}
+use Rattle.std.proofs.Common.{◌≡◌, ◌≢◌, refl, sym, ap, ◌∙◌, subst, inl, inr, ℤ, Bool, true, false, List, [], ◌∷◌, Option, Some, None}
 use Rattle.std.specs.Prelude.{◌&&◌, ◌||◌, not, if◌then◌else◌, int_le, ◌⊎◌}
 use Rattle.ceu_base.specs.declared.kinds.Ty.{Ty}
 use Rattle.ceu_base.specs.declared.kinds.Ty.TheVariants as ty
@@ -8,9 +8,7 @@ use Rattle.ceu_base.specs.declared.kinds.Op1.TheVariants as op1
 use Rattle.ceu_base.specs.declared.kinds.Op2.{Op2}
 use Rattle.ceu_base.specs.declared.kinds.Op2.TheVariants as op2
 use Rattle.ceu_base.specs.Values.{least, above, IsValue, is_bool, is_numeric, takes1, takes2, right_type, applied2}
-use Rattle.ceu_tree.specs.declared.kernel.Loc.{Loc}
-use Rattle.ceu_tree.specs.declared.kernel.KExpNode.{KExpNode, Row_of-KExp, end_of-KExp, more_of-KExp, Const, Read, Alive, One', Two', As'}
-use Rattle.ceu_tree.specs.Typing.{same_ty, holds_all, first_that_holds, common, is_amount, is_test, is_some_ty, some_ty, meets, joined_ty, fits1, fits2, operand_ty, operand_open, node_typed, operand_typed}
+use Rattle.ceu_tree.specs.Typing.{same_ty, holds_all, first_that_holds, common, is_amount, is_test, is_some_ty, some_ty, meets, joined_ty, fits1, fits2}
 use Rattle.ceu_shape.specs.Expressions.{common_or, operator_ty}
 use Rattle.ceu_results.proofs.Operators.{and_left, and_right, bool_is, same_is, one_type, holds_itself, held_value, common_holds}
 

@@ -19,11 +19,17 @@ pub data Does (image : Image) : (r : Registers) (bytes : List ℕ) (q : Register
   goes : {r q s : Registers} {bytes between after : List ℕ} (i : Instr) → fetched image r.at ≡ Some i → in_finalizers i ≡ true → effect image i (behind i r) bytes ≡ Goes s between [] → Does image s between q after
       → Does image r bytes q after
 
--- such instructions, and then one that faults
-pub record Fails (image : Image) (r : Registers) (bytes : List ℕ) (fault : Fault) (place : Pos) : Type 0 where
+-- how many instructions
+abbrev pub steps_of : {image : Image} {r q : Registers} {bytes after : List ℕ} → Does image r bytes q after → ℕ
+steps_of stays = 0
+steps_of (goes i f m e rest) = steps_of rest + 1
+
+-- Such instructions, and then one that faults. It stands before an offset, and the trail goes forward in the code.
+pub record Fails (image : Image) (r : Registers) (bytes : List ℕ) (to : ℕ) (fault : Fault) (place : Pos) : Type 0 where
   pub at : Registers
   pub there : List ℕ
   pub does : Does image r bytes at there
+  pub few : steps_of does + r.at < to
   pub last : Instr
   pub last_is : fetched image at.at ≡ Some last
   pub last_may : in_finalizers last ≡ true
@@ -34,14 +40,15 @@ pub record Kept (image : Image) (cell : ℕ) (old new : List ℕ) : Type 0 where
   pub size : length new ≡ length old
   pub outside : (i : ℕ) → (i < cell_at cell) ⊎ (gates_at image ≤ i) → slice_index new i ≡ slice_index old i
 
--- Goes on at an offset with a value in the next cell.
+-- Goes on at an offset with a value in the next cell, and goes forward in the code.
 pub record Pushes (image : Image) (r : Registers) (bytes : List ℕ) (to : ℕ) (value : ℤ) : Type 0 where
   pub after : List ℕ
   pub does : Does image r bytes (record r { at = to; depth = r.depth + 1 }) after
+  pub few : steps_of does + r.at ≤ to
   pub kept : Kept image r.depth bytes after
   pub holds : number_at 8 after (cell_at r.depth) ≡ cell value
 
 -- pushes a value, or faults at a position
 abbrev pub Gives : (image : Image) (r : Registers) (bytes : List ℕ) (to : ℕ) → Answer → Type 0
 Gives image r bytes to (Ok value) = Pushes image r bytes to value
-Gives image r bytes to (Err fault) = Fails image r bytes fault.0 fault.1
+Gives image r bytes to (Err fault) = Fails image r bytes to fault.0 fault.1

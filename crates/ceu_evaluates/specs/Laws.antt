@@ -1,10 +1,13 @@
--- The lines of an expression, where they stand in the code, do what the reference semantics says: they push its value, or fault as it does.
+-- The lines of an expression, where they stand in the code, do what the reference semantics says: they push its value, or fault as it does. And what a
+-- trail does in instructions is as many steps of its turn.
 use Rattle.std.specs.Prelude.{◌≡◌, ℕ, ◌+◌, ◌≤◌, Bool, true, List}
+use Rattle.ceu_base.specs.declared.kinds.Fault.{Fault}
 use Rattle.ceu_base.specs.declared.kinds.Pos.{Pos}
 use Rattle.ceu_code.specs.declared.image.Image.{Image}
 use Rattle.ceu_asm.specs.Lines.{code_size}
 use Rattle.ceu_isa.specs.declared.registers.Registers.{Registers}
 use Rattle.ceu_isa.specs.Safety.{Fits}
+use Rattle.ceu_isa.specs.Turns.{Machine, Trail, rewritten, failing, behind, ticks}
 use Rattle.ceu_fetch.specs.Placed.{Placed}
 use Rattle.ceu_shape.specs.Expressions.{exp_draft}
 use Rattle.ceu_tree.specs.declared.kernel.Loc.{Loc}
@@ -14,7 +17,7 @@ use Rattle.ceu_tree.specs.Expressions.{value_of}
 use Rattle.ceu_tree.specs.Residual.{Body}
 use Rattle.ceu_tree.specs.Typing.{typed}
 use Rattle.ceu_tree.specs.World.{World}
-use Rattle.ceu_evaluates.specs.Does.{Gives}
+use Rattle.ceu_evaluates.specs.Does.{Does, steps_of, Fails, Gives}
 use Rattle.ceu_evaluates.specs.Seen.{Visible, NodePlaced}
 
 -- from any cell on, from which the image has enough
@@ -24,3 +27,10 @@ ExpressionsEvaluate =
     → typed reads asks e ≡ true → Fits image bytes → Visible image offset r.frame body w bytes e.node → NodePlaced image number e.node e.pos
     → Placed image labels r.at ((exp_draft offset e fresh).lines number) → r.depth + exp_depth e ≤ image.depth
     → Gives image r bytes (r.at + code_size ((exp_draft offset e fresh).lines number)) (value_of e body w)
+
+-- one that faults is one step more
+abbrev pub InstructionsAreSteps : Type 0
+InstructionsAreSteps =
+    (image : Image) (r : Registers) (m : Machine)
+    → ((q : Registers) (after : List ℕ) (does : Does image r m.bytes q after) → ticks image (steps_of does) (Trail r m) ≡ Trail q (rewritten after m))
+    × ((to : ℕ) (fault : Fault) (place : Pos) (fails : Fails image r m.bytes to fault place) → ticks image (steps_of fails.does + 1) (Trail r m) ≡ failing image fault place (behind fails.last fails.at) (rewritten fails.there m))

@@ -1,6 +1,5 @@
 -- What an expression finds in the memory and in the image: the variables and aliases that it names, and the positions of its operators.
 use Rattle.std.specs.Prelude.{◌≡◌, ◌≢◌, ℕ, ◌+◌, Bool, true, false, if◌then◌else◌, List, Some, slice_get}
-use Rattle.ceu_base.specs.declared.kinds.Ty.{Ty}
 use Rattle.ceu_base.specs.declared.kinds.Ty.TheVariants as ty
 use Rattle.ceu_base.specs.declared.kinds.Pos.{Pos}
 use Rattle.ceu_base.specs.Values.{IsValue}
@@ -9,7 +8,6 @@ use Rattle.ceu_mem.specs.Memory.{size, value_at}
 use Rattle.ceu_isa.specs.Layout.{slots_at, in_slots}
 use Rattle.ceu_isa.specs.Pools.{Life, Unclear, Over, Lives, life_of}
 use Rattle.ceu_tree.specs.declared.kernel.Loc.{Loc}
-use Rattle.ceu_tree.specs.declared.kernel.KExp.{KExp}
 use Rattle.ceu_tree.specs.declared.kernel.KExpNode.{KExpNode, Row_of-KExp, end_of-KExp, more_of-KExp, Const, Read, Alive, One', Two', As'}
 use Rattle.ceu_tree.specs.Residual.{Body}
 use Rattle.ceu_tree.specs.World.{World, look, place_of}
