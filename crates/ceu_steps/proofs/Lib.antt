@@ -1,3 +1,5 @@
 pub mod Ticks
 pub mod Bytes
 pub mod Unseen
+pub mod Sweeps
+pub mod Evaluates

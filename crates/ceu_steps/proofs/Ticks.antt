@@ -35,8 +35,8 @@ pub stay : {image : Image} {s : State} → Runs image 0 s s
 unfolding ticks
 stay = record { count = 0; few = omega arith; comes = refl }
 
-pub then : {image : Image} {n m : ℕ} {a b c : State} → Runs image n a b → Runs image m b c → Runs image (n + m) a c
-then {image = image} {a = a} {b = b} {c = c} x y = record { count = x.count + y.count; few = omega (arith, x.few, y.few); comes = ticks_then image x.count y.count a b c x.comes y.comes }
+pub onward : {image : Image} {n m : ℕ} {a b c : State} → Runs image n a b → Runs image m b c → Runs image (n + m) a c
+onward {image = image} {a = a} {b = b} {c = c} x y = record { count = x.count + y.count; few = omega (arith, x.few, y.few); comes = ticks_then image x.count y.count a b c x.comes y.comes }
 
 pub wider : {image : Image} {n m : ℕ} {a b : State} → n ≤ m → Runs image n a b → Runs image m a b
 wider le x = record { count = x.count; few = omega (arith, x.few, le); comes = x.comes }
