@@ -3,3 +3,4 @@ pub mod Bytes
 pub mod Unseen
 pub mod Sweeps
 pub mod Evaluates
+pub mod Frames
