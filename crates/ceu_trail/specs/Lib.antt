@@ -5,3 +5,5 @@ pub mod Within
 pub mod Turning
 pub mod Coming
 pub mod Laws
+pub mod Parts
+pub mod PartLaws
