@@ -4,3 +4,5 @@ pub mod Unseen
 pub mod Sweeps
 pub mod Evaluates
 pub mod Frames
+pub mod Lines
+pub mod Expressions
