@@ -6,3 +6,7 @@ pub mod Evaluates
 pub mod Frames
 pub mod Lines
 pub mod Expressions
+pub mod Places
+pub mod Comes
+pub mod Begins
+pub mod Simple

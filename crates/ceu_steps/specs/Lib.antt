@@ -1,3 +1,4 @@
 pub mod Running
 pub mod Reached
 pub mod Ready
+pub mod Premises
