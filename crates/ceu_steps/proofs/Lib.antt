@@ -10,3 +10,4 @@ pub mod Places
 pub mod Comes
 pub mod Begins
 pub mod Simple
+pub mod Together

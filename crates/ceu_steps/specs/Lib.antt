@@ -2,3 +2,4 @@ pub mod Running
 pub mod Reached
 pub mod Ready
 pub mod Premises
+pub mod Live
