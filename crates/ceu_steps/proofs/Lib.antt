@@ -11,3 +11,4 @@ pub mod Comes
 pub mod Begins
 pub mod Simple
 pub mod Together
+pub mod Live
