@@ -12,3 +12,4 @@ pub mod Begins
 pub mod Simple
 pub mod Together
 pub mod Live
+pub mod Numbers
