@@ -36,8 +36,8 @@ plug_wrap (fr ∷ outer) f q = plug_wrap outer (In fr f) q
 
 pub body_wrap : {A : Type 0} {K : Kernel} {outer : List Frame} {d : Part} (f : Focus A) → Reached K outer d → body_of (wrap outer f) Program ≡ body_of f Program
 body_wrap f at_program = refl
-body_wrap f (at_statement {b = b} {rest = rest} done x e) = body_wrap (In (OfBlock b [] no_instance rest) f) x
-body_wrap f (at_end {b = b} x) = body_wrap (In (OfBlock b [] no_instance []) f) x
+body_wrap f (at_statement {b = b} {rest = rest} done x e pl) = body_wrap (In (OfBlock b [] no_instance rest) f) x
+body_wrap f (at_end {b = b} x pl) = body_wrap (In (OfBlock b [] no_instance []) f) x
 body_wrap f (in_part {s = s} b x o) = body_wrap (In (OfOpen s) f) x
 body_wrap f (in_turn {s = s} {c = c} k b x e n) = body_wrap (In (OfLoop s c) f) x
 
@@ -53,18 +53,18 @@ up_in fr f x w m same e = ap (λ (y : Body). let k = up y f x w in through Progr
 
 pub up_goes : {K : Kernel} {outer : List Frame} {d : Part} (f g : Focus Act) (x : Outcome) (w v : World) → Reached K outer d → up Program f x w ≡ moved (Goes g) v → up Program (wrap outer f) x w ≡ moved (Goes (wrap outer g)) v
 up_goes f g x w v at_program e = e
-up_goes f g x w v (at_statement {b = b} {rest = rest} done y q) e =
+up_goes f g x w v (at_statement {b = b} {rest = rest} done y q pl) e =
     up_goes (In (OfBlock b [] no_instance rest) f) (In (OfBlock b [] no_instance rest) g) x w v y (up_in (OfBlock b [] no_instance rest) f x w (moved (Goes g) v) (λ z. refl) e)
-up_goes f g x w v (at_end {b = b} y) e = up_goes (In (OfBlock b [] no_instance []) f) (In (OfBlock b [] no_instance []) g) x w v y (up_in (OfBlock b [] no_instance []) f x w (moved (Goes g) v) (λ z. refl) e)
+up_goes f g x w v (at_end {b = b} y pl) e = up_goes (In (OfBlock b [] no_instance []) f) (In (OfBlock b [] no_instance []) g) x w v y (up_in (OfBlock b [] no_instance []) f x w (moved (Goes g) v) (λ z. refl) e)
 up_goes f g x w v (in_part {s = s} b y o) e = up_goes (In (OfOpen s) f) (In (OfOpen s) g) x w v y (up_in (OfOpen s) f x w (moved (Goes g) v) (λ z. refl) e)
 up_goes f g x w v (in_turn {s = s} {c = c} k b y q n) e = up_goes (In (OfLoop s c) f) (In (OfLoop s c) g) x w v y (up_in (OfLoop s c) f x w (moved (Goes g) v) (λ z. refl) e)
 
 pub up_fails : {K : Kernel} {outer : List Frame} {d : Part} (f : Focus Act) (p : Fault × Pos) (q : Residual) (x : Outcome) (w v : World) → Reached K outer d → up Program f x w ≡ moved (Fails p q) v
     → up Program (wrap outer f) x w ≡ moved (Fails p (filled outer q)) v
 up_fails f p q x w v at_program e = e
-up_fails f p q x w v (at_statement {b = b} {rest = rest} done y h) e =
+up_fails f p q x w v (at_statement {b = b} {rest = rest} done y h pl) e =
     up_fails (In (OfBlock b [] no_instance rest) f) p (fill (OfBlock b [] no_instance rest) q) x w v y (up_in (OfBlock b [] no_instance rest) f x w (moved (Fails p q) v) (λ z. refl) e)
-up_fails f p q x w v (at_end {b = b} y) e = up_fails (In (OfBlock b [] no_instance []) f) p (fill (OfBlock b [] no_instance []) q) x w v y (up_in (OfBlock b [] no_instance []) f x w (moved (Fails p q) v) (λ z. refl) e)
+up_fails f p q x w v (at_end {b = b} y pl) e = up_fails (In (OfBlock b [] no_instance []) f) p (fill (OfBlock b [] no_instance []) q) x w v y (up_in (OfBlock b [] no_instance []) f x w (moved (Fails p q) v) (λ z. refl) e)
 up_fails f p q x w v (in_part {s = s} b y o) e = up_fails (In (OfOpen s) f) p (fill (OfOpen s) q) x w v y (up_in (OfOpen s) f x w (moved (Fails p q) v) (λ z. refl) e)
 up_fails f p q x w v (in_turn {s = s} {c = c} k b y h n) e = up_fails (In (OfLoop s c) f) p (fill (OfLoop s c) q) x w v y (up_in (OfLoop s c) f x w (moved (Fails p q) v) (λ z. refl) e)
 

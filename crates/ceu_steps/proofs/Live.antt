@@ -1,5 +1,6 @@
 -- The slots in use at a part lie within the frame and are pairwise disjoint.
 use Rattle.std.proofs.Common.{◌≡◌, ◌≢◌, refl, sym, ap, ◌∙◌, subst, ◌<◌, ◌≤◌, ◌⊎◌, inl, inr, ⊎_elim, ℕ, zero, suc, ◌+◌, Bool, true, false, List, [], ◌∷◌, ◌++◌, length, Contains, arith}
+use Rattle.std.proofs.lemmas.List.{append-nil}
 use Rattle.std.proofs.lemmas.List.Elements.{Contains-append_left, Contains-append_right, Contains-append_cases}
 use Rattle.ceu_base.specs.declared.kinds.Ty.{Ty}
 use Rattle.ceu_base.specs.declared.kinds.Ty.TheVariants as ty
@@ -109,9 +110,9 @@ module _ (offset width frame : ℕ → ℕ) (total : ℕ) (K : Kernel) (keeps : 
         within = m.0;
         apart = m.1;
         sized = (tt, h.live.sized);
-        variables = λ v c. elim (Contains-append_cases (all_declared (out-KBlock b).decls) (vars_in outer) v c) [
-          | inl x ↦ (let r = declared_variable (out-KBlock b).decls v (declared_sized offset width frame b h.sized) x in (r.0, Contains-append_left (decl_slots (out-KBlock b).decls) (slots_in outer) v.slot r.1))
-          | inr x ↦ (let r = h.live.variables v x in (r.0, Contains-append_right (decl_slots (out-KBlock b).decls) (slots_in outer) v.slot r.1))
+        variables = λ v c. elim (Contains-append_cases (vars_in outer) (all_declared (out-KBlock b).decls) v c) [
+          | inr x ↦ (let r = declared_variable (out-KBlock b).decls v (declared_sized offset width frame b h.sized) x in (r.0, Contains-append_left (decl_slots (out-KBlock b).decls) (slots_in outer) v.slot r.1))
+          | inl x ↦ (let r = h.live.variables v x in (r.0, Contains-append_right (decl_slots (out-KBlock b).decls) (slots_in outer) v.slot r.1))
         ];
       }
 
@@ -130,12 +131,12 @@ module _ (offset width frame : ℕ → ℕ) (total : ℕ) (K : Kernel) (keeps : 
         within = m.0;
         apart = m.1;
         sized = (subst (λ l. LayerSized offset width frame total l) (sym e) sized.0, h.live.sized);
-        variables = λ v d. elim (Contains-append_cases (looped (out-KStmt s.stmt)) (vars_in outer) v d) [
-          | inl x ↦ (
+        variables = λ v d. elim (Contains-append_cases (vars_in outer) (looped (out-KStmt s.stmt)) v d) [
+          | inr x ↦ (
               let r = turned_variable k v sized.0 (subst (λ l. Contains (looped l) v) e x) in
               (r.0, Contains-append_left (layer_slots (out-KStmt s.stmt)) (slots_in outer) v.slot (subst (λ (l : List ℕ). Contains l v.slot) (sym own_is) r.1))
             )
-          | inr x ↦ (let r = h.live.variables v x in (r.0, Contains-append_right (layer_slots (out-KStmt s.stmt)) (slots_in outer) v.slot r.1))
+          | inl x ↦ (let r = h.live.variables v x in (r.0, Contains-append_right (layer_slots (out-KStmt s.stmt)) (slots_in outer) v.slot r.1))
         ];
       }
 
@@ -147,7 +148,7 @@ module _ (offset width frame : ℕ → ℕ) (total : ℕ) (K : Kernel) (keeps : 
     cross = λ x y c d. in_none x c;
     live = record { within = λ x c. in_none x c; apart = λ x y c d ne. in_none x c; sized = tt; variables = λ v c. in_none v c };
   }
-  lifted_of (at_statement {outer = outer} {b = b} {s = s} {rest = rest} done x e) =
+  lifted_of (at_statement {outer = outer} {b = b} {s = s} {rest = rest} done x e pl) =
       let h = lifted_of x in
       record {
         inside = λ y c. h.inside y (in_block_slots b done rest s y e c);
@@ -159,7 +160,7 @@ module _ (offset width frame : ℕ → ℕ) (total : ℕ) (K : Kernel) (keeps : 
         ];
         live = block_live outer b rest h;
       }
-  lifted_of (at_end {outer = outer} {b = b} x) =
+  lifted_of (at_end {outer = outer} {b = b} x pl) =
       record { inside = λ y c. in_none y c; lifts = λ x y t. elim t [ ]; sized = tt; cross = λ x y c d. in_none y d; live = block_live outer b [] (lifted_of x) }
   lifted_of (in_part {outer = outer} {s = s} b x o) =
       let h = lifted_of x in
@@ -168,7 +169,7 @@ module _ (offset width frame : ℕ → ℕ) (total : ℕ) (K : Kernel) (keeps : 
         lifts = λ x y t. h.lifts x y (part_together x y s.stmt b o t);
         sized = part_sized offset width frame s.stmt b o h.sized;
         cross = λ x y c d. h.cross x y c (part_has s.stmt b y o d);
-        live = record { within = h.live.within; apart = h.live.apart; sized = (tt, h.live.sized); variables = h.live.variables };
+        live = record { within = h.live.within; apart = h.live.apart; sized = (tt, h.live.sized); variables = λ v c. h.live.variables v (subst (λ (l : List Variable). Contains l v) (append-nil (vars_in outer)) c) };
       }
   lifted_of (in_turn {outer = outer} {s = s} {c = c} k b x e n) =
       let h = lifted_of x in

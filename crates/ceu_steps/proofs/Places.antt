@@ -28,8 +28,8 @@ snoc (one_around {fr = out} z x) y = let h = snoc x y in (In out h.0, one_around
 -- some focus has its leaf there
 pub around_of : {K : Kernel} {outer : List Frame} {d : Part} → Reached K outer d → (f : Focus Act) × Around K 1 Act f (program_part K) d
 around_of at_program = (Here AtEnd, nothing_around)
-around_of (at_statement done x e) = let h = around_of x in snoc h.1 (around_statement done e refl none_lives)
-around_of (at_end x) = let h = around_of x in snoc h.1 (around_end refl none_lives)
+around_of (at_statement done x e pl) = let h = around_of x in snoc h.1 (around_statement done e refl none_lives)
+around_of (at_end x pl) = let h = around_of x in snoc h.1 (around_end refl none_lives)
 around_of (in_part b x o) = let h = around_of x in snoc h.1 (around_part b o)
 around_of (in_turn k b x e n) = let h = around_of x in snoc h.1 (around_turn k b e n)
 
@@ -42,9 +42,9 @@ module _ (laws : BuiltLaws) (image : Image) (P : Plan) (width : ℕ → ℕ) (K 
 
   pub built_of : {outer : List Frame} {d : Part} → Reached K outer d → PartSingle d × PartBuilt image P K (is_whole outer) d
   built_of at_program = laws.program_is_built image P width K compiled
-  built_of (at_statement {outer = outer} {turn = turn} {sc = sc} {b = b} {rest = rest} done x e) =
+  built_of (at_statement {outer = outer} {turn = turn} {sc = sc} {b = b} {rest = rest} done x e pl) =
       let h = built_of x in laws.frames_are_built image P K 1 (is_whole outer) (OfBlock b (finalizers_of [] done) no_instance rest) _ _ compiled.single (around_statement {turn = turn} {sc = sc} done e refl none_lives) h.0 h.1
-  built_of (at_end {outer = outer} {b = b} x) = (tt, tt)
+  built_of (at_end {outer = outer} {b = b} x pl) = (tt, tt)
   built_of (in_part {outer = outer} {sc = sc} {s = s} b x o) = let h = built_of x in laws.frames_are_built image P K 1 (is_whole outer) (OfOpen s) _ _ compiled.single (around_part {sc = sc} b o) h.0 h.1
   built_of (in_turn {outer = outer} {sc = sc} {s = s} {c = c} k b x e n) = let h = built_of x in laws.frames_are_built image P K 1 (is_whole outer) (OfLoop s c) _ _ compiled.single (around_turn {sc = sc} k b e n) h.0 h.1
 

@@ -10,6 +10,7 @@ use Rattle.ceu_tree.specs.declared.kernel.KBlock.{KBlock, out-KBlock}
 use Rattle.ceu_tree.specs.declared.kernel.KStmt.{KStmt, out-KStmt, Nothing}
 use Rattle.ceu_tree.specs.Leaf as does
 use Rattle.ceu_tree.specs.Leaf.{acted, next_of, rest_of}
+use Rattle.ceu_tree.specs.Legal.{finalizers_of}
 use Rattle.ceu_tree.specs.Proper.{Scope}
 use Rattle.ceu_tree.specs.Residual.{Program, Act, Start, no_instance}
 use Rattle.ceu_tree.specs.Focus.{Frame, OfBlock, Focus, Here, In}
@@ -53,11 +54,11 @@ module _ (laws : BuiltLaws) (image : Image) (P : Plan) (width : ℕ → ℕ) (K 
       (record { memory = p.memory; counts = (tt, p.counts); place = behind_place laws image P width K compiled b done rest s p.after.bytes x e })
 
   -- where the act goes past its statement
-  pub pass_comes : {turn : Bool} {sc : Scope} (outer : List Frame) (b : KBlock) (done rest : List KNode) (s : KNode) (a : Act) (w new : World) (m : Machine) (start : ℕ) → Reached K outer (ABlock turn sc b) → (out-KBlock b).list ≡ done ++ s ∷ rest
+  pub pass_comes : {turn : Bool} {sc : Scope} (outer : List Frame) (b : KBlock) (done rest : List KNode) (s : KNode) (a : Act) (w new : World) (m : Machine) (start : ℕ) → Reached K outer (ABlock turn sc b) → (out-KBlock b).list ≡ done ++ s ∷ rest → finalizers_of [] done ≡ []
       → acted K 0 Program a w ≡ does.done does.Passes new → Passed w new m s outer start
       → let v = stepped K 0 Program (wrap outer (In (OfBlock b [] no_instance rest) (Here a))) w in Comes image P width K w (trail_at image start 0) m v.outcome v.world
-  pass_comes outer b done rest s a w new m start x e d p =
-      subst (λ (v : Moved). Comes image P width K w (trail_at image start 0) m v.outcome v.world) (sym (passes_is b rest a w new x (at_statement done x e) d)) (passed_on outer b done rest s w new m start x e p)
+  pass_comes outer b done rest s a w new m start x e pl d p =
+      subst (λ (v : Moved). Comes image P width K w (trail_at image start 0) m v.outcome v.world) (sym (passes_is b rest a w new x (at_statement done x e pl) d)) (passed_on outer b done rest s w new m start x e p)
 
   nothing_runs : (n : ℕ) (p : Pos) (m : Machine) → StatementBuilt image P K (record { node = n; pos = p; stmt = Nothing })
       → Runs image 1 (Trail (trail_at image (at_label image P K (own_label n)) 0) m) (Trail (trail_at image (at_label image P K (end_label n)) 0) m)
@@ -69,12 +70,12 @@ module _ (laws : BuiltLaws) (image : Image) (P : Plan) (width : ℕ → ℕ) (K 
   nothing_does n p w = refl
 
   pub nothing_comes : {turn : Bool} {sc : Scope} (outer : List Frame) (b : KBlock) (done rest : List KNode) (n : ℕ) (p : Pos) (w : World) (m : Machine) (start : ℕ) → let s : KNode = record { node = n; pos = p; stmt = Nothing } in
-      Reached K outer (ABlock turn sc b) → (out-KBlock b).list ≡ done ++ s ∷ rest → StandsIn image P width K outer (OfBlock b [] no_instance rest) (Start s) w start m.bytes
+      Reached K outer (ABlock turn sc b) → (out-KBlock b).list ≡ done ++ s ∷ rest → finalizers_of [] done ≡ [] → StandsIn image P width K outer (OfBlock b [] no_instance rest) (Start s) w start m.bytes
       → let v = stepped K 0 Program (wrap outer (In (OfBlock b [] no_instance rest) (Here (Start s)))) w in Comes image P width K w (trail_at image start 0) m v.outcome v.world
-  nothing_comes outer b done rest n p w m start x e stands =
+  nothing_comes outer b done rest n p w m start x e pl stands =
       let s : KNode = record { node = n; pos = p; stmt = Nothing } in
       let among = (opens_of laws image P width K compiled x).statement done rest (record { node = n; pos = p; stmt = Nothing }) e in
-      pass_comes outer b done rest (record { node = n; pos = p; stmt = Nothing }) (Start (record { node = n; pos = p; stmt = Nothing })) w w m start x e (nothing_does n p w)
+      pass_comes outer b done rest (record { node = n; pos = p; stmt = Nothing }) (Start (record { node = n; pos = p; stmt = Nothing })) w w m start x e pl (nothing_does n p w)
       (record {
         after = m;
         count = 1;

@@ -28,7 +28,7 @@ slots_in (fr ∷ outer) = slots_of fr ++ slots_in outer
 
 abbrev pub vars_in : List Frame → List Variable
 vars_in [] = []
-vars_in (fr ∷ outer) = in_frame fr ++ vars_in outer
+vars_in (fr ∷ outer) = vars_in outer ++ in_frame fr
 
 -- ---- those inside the part
 

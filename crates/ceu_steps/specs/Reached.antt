@@ -8,6 +8,7 @@ use Rattle.ceu_tree.specs.declared.kernel.KStmt.{out-KStmt}
 use Rattle.ceu_tree.specs.declared.kernel.KStmt.TheOpen.{KStmt-F}
 use Rattle.ceu_tree.specs.Residual.{Counter, Residual, no_instance}
 use Rattle.ceu_tree.specs.Focus.{Frame, OfBlock, OfOpen, OfLoop, Focus, In, fill}
+use Rattle.ceu_tree.specs.Legal.{finalizers_of}
 use Rattle.ceu_tree.specs.Proper.{Scope}
 use Rattle.ceu_legal.specs.Shape.{Part, ABlock, AStatement, AnEnd, block_scope, part_scope, turn_scope, program_part, opens_part, counts}
 
@@ -29,8 +30,8 @@ is_whole (fr ∷ outer) = false
 pub data Reached (K : Kernel) : List Frame → Part → Type 0 where
   at_program : Reached K [] (program_part K)
   at_statement : {outer : List Frame} {turn : Bool} {sc : Scope} {b : KBlock} {s : KNode} {rest : List KNode} (done : List KNode)
-      → Reached K outer (ABlock turn sc b) → (out-KBlock b).list ≡ done ++ s ∷ rest → Reached K (OfBlock b [] no_instance rest ∷ outer) (AStatement (block_scope sc b) s)
-  at_end : {outer : List Frame} {turn : Bool} {sc : Scope} {b : KBlock} → Reached K outer (ABlock turn sc b) → Reached K (OfBlock b [] no_instance [] ∷ outer) AnEnd
+      → Reached K outer (ABlock turn sc b) → (out-KBlock b).list ≡ done ++ s ∷ rest → finalizers_of [] done ≡ [] → Reached K (OfBlock b [] no_instance rest ∷ outer) (AStatement (block_scope sc b) s)
+  at_end : {outer : List Frame} {turn : Bool} {sc : Scope} {b : KBlock} → Reached K outer (ABlock turn sc b) → finalizers_of [] (out-KBlock b).list ≡ [] → Reached K (OfBlock b [] no_instance [] ∷ outer) AnEnd
   in_part : {outer : List Frame} {sc : Scope} {s : KNode} (b : KBlock) → Reached K outer (AStatement sc s) → opens_part (out-KStmt s.stmt) b
       → Reached K (OfOpen s ∷ outer) (ABlock false (part_scope K sc s.node (out-KStmt s.stmt)) b)
   in_turn : {outer : List Frame} {sc : Scope} {s : KNode} {c : Counter} (k : KLoop) (b : KBlock) → Reached K outer (AStatement sc s) → out-KStmt s.stmt ≡ KStmt-F.Loop k b → counts k c ≡ true
