@@ -13,3 +13,4 @@ pub mod Simple
 pub mod Together
 pub mod Live
 pub mod Numbers
+pub mod Store

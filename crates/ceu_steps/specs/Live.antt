@@ -2,6 +2,7 @@
 use Rattle.std.specs.Prelude.{◌≡◌, ◌≢◌, ℕ, ◌+◌, ◌≤◌, List, [], ◌∷◌, ◌++◌, ⊤}
 use Rattle.std.specs.List.{Contains}
 use Rattle.ceu_tree.specs.declared.kernel.KLoop.{KLoop}
+use Rattle.ceu_tree.specs.declared.kernel.KLoop.TheVariants as turns
 use Rattle.ceu_tree.specs.declared.kernel.KBlock.{KBlock, out-KBlock}
 use Rattle.ceu_tree.specs.declared.kernel.KStmt.{out-KStmt}
 use Rattle.ceu_tree.specs.declared.kernel.KStmt.TheOpen.{KStmt-F}
@@ -66,3 +67,22 @@ module _ (offset width frame : ℕ → ℕ) (total : ℕ) where
     pub apart : (x y : ℕ) → Contains (slots_in outer) x → Contains (slots_in outer) y → x ≢ y → Disjoint offset width frame x y
     pub sized : AllSized outer
     pub variables : (v : Variable) → Contains (vars_in outer) v → (width v.slot ≡ size v.ty) × Contains (slots_in outer) v.slot
+
+-- ---- hidden slots of loops: the turns that have begun, or the next value and the last one
+
+abbrev pub hidden_loop : KLoop → List ℕ
+hidden_loop turns.Free = []
+hidden_loop (turns.Times slot n) = slot ∷ []
+hidden_loop (turns.Range i next end open_a a b open_b) = next ∷ end ∷ []
+
+abbrev pub hidden_layer : Layer → List ℕ
+hidden_layer (KStmt-F.Loop k b) = hidden_loop k
+hidden_layer layer = []
+
+abbrev pub hidden_of : Frame → List ℕ
+hidden_of (OfLoop s c) = hidden_layer (out-KStmt s.stmt)
+hidden_of fr = []
+
+abbrev pub hidden_in : List Frame → List ℕ
+hidden_in [] = []
+hidden_in (fr ∷ outer) = hidden_of fr ++ hidden_in outer
