@@ -14,3 +14,4 @@ pub mod Together
 pub mod Live
 pub mod Numbers
 pub mod Store
+pub mod Scenes
