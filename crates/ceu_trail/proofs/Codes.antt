@@ -25,6 +25,7 @@ use Rattle.ceu_shape.specs.Searches.{node_of_block}
 use Rattle.ceu_shape.specs.Shape.{labels_of, expression_count, node_draft, with_parts, parts_draft, block_draft, codes_draft, program_draft, first_fresh, kernel_piece, shape_lines}
 use Rattle.ceu_single.specs.Single.{stmt_single, block_single, Single}
 use Rattle.ceu_trail.specs.Built.{behind, ending, at_label, number, node_whole, list_draft, StatementBuilt, BlockBuilt, ListBuilt, PartBuilt}
+use Rattle.ceu_trail.specs.Compiled.{Compiled}
 use Rattle.ceu_trail.specs.Laws.{is_here, PartsAreBuilt}
 use Rattle.ceu_trail.specs.Parts.{PartSingle}
 use Rattle.ceu_trail.specs.PartLaws.{ProgramIsBuilt, FramesAreBuilt, BlocksOpen, ListsBegin}
@@ -41,12 +42,12 @@ module _ (image : Image) (P : Plan) (K : Kernel) where
   abbrev label : ℕ → ℕ
   label = at_label image P K
 
-  abbrev Put : ℕ → List Line → Type 0
+  abbrev pub Put : ℕ → List Line → Type 0
   Put at lines = Placed image (at_label image P K) at lines
 
   -- ---- each part begins with its own label
 
-  statement_begins : (n : ℕ) (p : Pos) (st : KStmt) (fresh at : ℕ) (more : List Line) → stmt_single st ≡ true
+  pub statement_begins : (n : ℕ) (p : Pos) (st : KStmt) (fresh at : ℕ) (more : List Line) → stmt_single st ≡ true
       → Put at ((with_parts P K n p st (parts_draft P K st) fresh).lines (number image P K) ++ more) → at_label image P K (own_label n) ≡ at
   unfolding stmt_single
   statement_begins n p Nothing fresh at more h x = x.0
@@ -65,7 +66,7 @@ module _ (image : Image) (P : Plan) (K : Kernel) where
   statement_begins n p (Loop (turns.Range i next end open_a a c open_b) b) fresh at more h x = x.0
   statement_begins n p st fresh at more h x = absurd (false≢true h)
 
-  block_begins : (b : KBlock) (fresh at : ℕ) (more : List Line) → Put at ((block_draft P K b fresh).lines (number image P K) ++ more) → at_label image P K (own_label (node_of_block b)) ≡ at
+  pub block_begins : (b : KBlock) (fresh at : ℕ) (more : List Line) → Put at ((block_draft P K b fresh).lines (number image P K) ++ more) → at_label image P K (own_label (node_of_block b)) ≡ at
   unfolding parts_draft
   block_begins (KBlock' n ds x list) fresh at more h = h.0
 
@@ -83,13 +84,13 @@ module _ (image : Image) (P : Plan) (K : Kernel) where
 
   -- ---- frames
 
-  found_statement : (s : KNode) (fresh : ℕ) → stmt_single s.stmt ≡ true → Found image (at_label image P K) ((node_whole image P K s fresh).lines (number image P K) ++ []) → StatementBuilt image P K s
+  abbrev pub found_statement : (s : KNode) (fresh : ℕ) → stmt_single s.stmt ≡ true → Found image (at_label image P K) ((node_whole image P K s fresh).lines (number image P K) ++ []) → StatementBuilt image P K s
   found_statement s fresh h f = record {
     fresh = fresh;
     lines = subst (λ k. Put k ((node_whole image P K s fresh).lines (number image P K) ++ [])) (sym (statement_begins s.node s.pos s.stmt fresh f.at [] h f.there)) f.there;
   }
 
-  found_block : (b : KBlock) (fresh : ℕ) → Found image (at_label image P K) ((block_draft P K b fresh).lines (number image P K) ++ behind P K false b) → BlockBuilt image P K false b
+  abbrev pub found_block : (b : KBlock) (fresh : ℕ) → Found image (at_label image P K) ((block_draft P K b fresh).lines (number image P K) ++ behind P K false b) → BlockBuilt image P K false b
   found_block b fresh f = record {
     fresh = fresh;
     lines = subst (λ k. Put k ((block_draft P K b fresh).lines (number image P K) ++ behind P K false b)) (sym (block_begins b fresh f.at (behind P K false b) f.there)) f.there;
@@ -145,17 +146,16 @@ whole_lines : (image : Image) (P : Plan) (K : Kernel)
 unfolding shape_lines kernel_piece
 whole_lines image P K = refl
 
-pub program_is_built : ProgramIsBuilt
-program_is_built image P width K c =
+pub body_placed : (image : Image) (P : Plan) (width : ℕ → ℕ) (K : Kernel) → Compiled image P width K
+    → Placed image (at_label image P K) (at_label image P K (own_label (node_of_block K.body))) ((block_draft P K K.body (first_fresh K)).lines (number image P K) ++ behind P K true K.body)
+body_placed image P width K c =
     let lines : List Line = (block_draft P K K.body (first_fresh K)).lines (number image P K) ++ behind P K true K.body in
     let codes : List Line = (codes_draft P K K.codes (program_draft P K K.body (first_fresh K)).next).lines (number image P K) in
-    let first = (parts_are_placed image (at_label image P K) 0 lines codes (subst (Placed image (at_label image P K) 0) (whole_lines image P K) c.placed)).0 in (
-      body_single K c.single,
-      record {
-        fresh = first_fresh K;
-        lines = subst (λ k. Placed image (at_label image P K) k lines) (sym (block_begins image P K K.body (first_fresh K) 0 (behind P K true K.body) first)) first;
-      },
-    )
+    let first = (parts_are_placed image (at_label image P K) 0 lines codes (subst (Placed image (at_label image P K) 0) (whole_lines image P K) c.placed)).0 in
+    subst (λ k. Placed image (at_label image P K) k lines) (sym (block_begins image P K K.body (first_fresh K) 0 (behind P K true K.body) first)) first
+
+pub program_is_built : ProgramIsBuilt
+program_is_built image P width K c = (body_single K c.single, record { fresh = first_fresh K; lines = body_placed image P width K c })
 
 -- from the whole program inward
 module _ (image : Image) (P : Plan) (K : Kernel) (single : Single K) where

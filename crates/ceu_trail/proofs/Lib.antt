@@ -4,3 +4,6 @@ pub mod Pieces
 pub mod Codes
 pub mod Gates
 pub mod Planned
+pub mod Rising
+pub mod Stops
+pub mod Plain

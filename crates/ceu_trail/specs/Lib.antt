@@ -7,3 +7,4 @@ pub mod Coming
 pub mod Laws
 pub mod Parts
 pub mod PartLaws
+pub mod Plain

@@ -2,7 +2,8 @@
 #![tactic(auto)]
 
 ghost use Rattle.ceu_trail.specs.Laws.{PartsAreBuilt};
-ghost use Rattle.ceu_trail.specs.PartLaws.{ProgramIsBuilt, FramesAreBuilt, BlocksOpen, ListsBegin, GatesAreFirst, GatesNest};
+ghost use Rattle.ceu_trail.specs.Plain.{BlocksArePlain};
+ghost use Rattle.ceu_trail.specs.PartLaws.{ProgramIsBuilt, FramesAreBuilt, BlocksOpen, ListsBegin, GatesAreFirst, GatesNest, StopsAreThere};
 
 /// Each part of a program at which a turn may be has its code, which stands at the part's own label.
 pub fn parts_are_built()
@@ -37,4 +38,14 @@ pub fn gates_are_first()
 /// A part has no more gates than the part around it.
 pub fn gates_nest()
     ensures { GatesNest }
+{}
+
+/// Each statement that waits goes on behind the instruction with which it waits, and each block begins at its own label.
+pub fn stops_are_there()
+    ensures { StopsAreThere }
+{}
+
+/// A block has neither finalizers nor pools.
+pub fn blocks_are_plain()
+    ensures { BlocksArePlain }
 {}
