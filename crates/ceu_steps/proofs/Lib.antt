@@ -15,3 +15,5 @@ pub mod Live
 pub mod Numbers
 pub mod Store
 pub mod Scenes
+pub mod Deep
+pub mod Seeing
