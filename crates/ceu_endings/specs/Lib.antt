@@ -1,0 +1,4 @@
+pub mod Counted
+pub mod OneTrail
+pub mod Laws
+pub mod Ends

@@ -1,0 +1,4 @@
+pub mod Fits
+pub mod There
+pub mod Laws
+pub mod Sizes

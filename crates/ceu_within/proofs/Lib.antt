@@ -1,0 +1,12 @@
+pub mod Looks
+pub mod Widths
+pub mod Exits
+pub mod Scopes
+pub mod Around
+pub mod Through
+pub mod Up
+pub mod Once
+pub mod Leaf
+pub mod Steps
+pub mod Rests
+pub mod Whole
