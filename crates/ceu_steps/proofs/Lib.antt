@@ -17,3 +17,5 @@ pub mod Store
 pub mod Scenes
 pub mod Deep
 pub mod Seeing
+pub mod Turns
+pub mod Assigns

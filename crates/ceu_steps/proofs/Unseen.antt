@@ -65,7 +65,7 @@ counter_stays : (t : Tables) (h : Home) (v u : View) (layer : Layer) (c : Counte
 counter_stays t h v u (KStmt-F.Loop k b) c s e = turns_stay t h v u k c s e
 counter_stays t h v u layer c s e = tt
 
-frame_stays : (t : Tables) (image : Image) (v u : View) (fr : Frame) → SameNumbers v u → FrameCounts t image v fr → FrameCounts t image u fr
+pub frame_stays : (t : Tables) (image : Image) (v u : View) (fr : Frame) → SameNumbers v u → FrameCounts t image v fr → FrameCounts t image u fr
 frame_stays t image v u (OfLoop n c) s e = counter_stays t (home image Program) v u (out-KStmt n.stmt) c s e
 frame_stays t image v u fr s e = tt
 
