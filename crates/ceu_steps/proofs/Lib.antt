@@ -19,3 +19,5 @@ pub mod Deep
 pub mod Seeing
 pub mod Turns
 pub mod Assigns
+pub mod Worlds
+pub mod Outs
