@@ -23,3 +23,4 @@ pub mod Worlds
 pub mod Outs
 pub mod Finds
 pub mod Knot
+pub mod Rests

@@ -100,7 +100,7 @@ plain_declared pools (d ∷ ds) seen slot h e = go (d.slot == slot) (plain_decla
     go true ih = plain_kind pools d.kind (and_parts (is_variable_decl d) (list_all is_variable_decl ds) h).0
     go false ih = ih
 
-block_plain : (b : KBlock) → block_single b ≡ true → list_all is_variable_decl (out-KBlock b).decls ≡ true
+pub block_plain : (b : KBlock) → block_single b ≡ true → list_all is_variable_decl (out-KBlock b).decls ≡ true
 unfolding block_single out-KBlock Carrier.out
 block_plain (KBlock' n ds k list) h = (and_parts (list_all is_variable_decl ds) _ h).0
 
