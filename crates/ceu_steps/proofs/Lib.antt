@@ -24,3 +24,4 @@ pub mod Outs
 pub mod Finds
 pub mod Knot
 pub mod Rests
+pub mod Awaits
