@@ -25,3 +25,4 @@ pub mod Finds
 pub mod Knot
 pub mod Rests
 pub mod Awaits
+pub mod Finishes
