@@ -47,7 +47,7 @@ pub up_here : (a : Act) (x : Outcome) (w : World) → up Program (Here a) x w �
 unfolding up
 up_here a x w = refl
 
-up_in : (fr : Frame) (f : Focus Act) (x : Outcome) (w : World) (m : Moved) → ((y : Body) → body_in fr y ≡ y) → up Program f x w ≡ m → up Program (In fr f) x w ≡ through Program fr f m.outcome m.world
+pub up_in : (fr : Frame) (f : Focus Act) (x : Outcome) (w : World) (m : Moved) → ((y : Body) → body_in fr y ≡ y) → up Program f x w ≡ m → up Program (In fr f) x w ≡ through Program fr f m.outcome m.world
 unfolding up
 up_in fr f x w m same e = ap (λ (y : Body). let k = up y f x w in through Program fr f k.outcome k.world) (same Program) ∙ ap (λ (k : Moved). through Program fr f k.outcome k.world) e
 

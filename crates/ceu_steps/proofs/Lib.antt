@@ -26,3 +26,4 @@ pub mod Knot
 pub mod Rests
 pub mod Awaits
 pub mod Finishes
+pub mod Ends
