@@ -27,3 +27,4 @@ pub mod Rests
 pub mod Awaits
 pub mod Finishes
 pub mod Ends
+pub mod Times

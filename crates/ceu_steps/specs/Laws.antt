@@ -7,7 +7,7 @@ use Rattle.ceu_tree.specs.declared.kernel.Kernel.{Kernel}
 use Rattle.ceu_tree.specs.declared.kernel.KStmt.{out-KStmt}
 use Rattle.ceu_tree.specs.declared.kernel.KStmt.TheOpen.{KStmt-F}
 use Rattle.ceu_tree.specs.Leaf.{Layer}
-use Rattle.ceu_tree.specs.Residual.{Program, Act, Begin, Start}
+use Rattle.ceu_tree.specs.Residual.{Program, Act, Begin, Start, Finish}
 use Rattle.ceu_tree.specs.Focus.{Focus, leaf}
 use Rattle.ceu_tree.specs.Step.{stepped}
 use Rattle.ceu_tree.specs.World.{World}
@@ -26,12 +26,18 @@ abbrev pub IsPlainStart : Layer → Type 0
 IsPlainStart KStmt-F.Nothing = Unit {0}
 IsPlainStart (KStmt-F.Assign l e) = Unit {0}
 IsPlainStart (KStmt-F.Out k e) = Unit {0}
+IsPlainStart (KStmt-F.AwaitIn k t) = Unit {0}
+IsPlainStart (KStmt-F.AwaitTime e u t) = Unit {0}
+IsPlainStart KStmt-F.Forever = Unit {0}
+IsPlainStart (KStmt-F.Do t b) = Unit {0}
 IsPlainStart layer = ⊥
 
--- a block begins, or a statement that does nothing, assigns or emits an output
+-- A block begins; a statement begins that does nothing, assigns, emits an output, waits for an input, for a time or for ever, or opens a block by `do`;
+-- or a statement that has waited goes on.
 abbrev pub IsPlain : Act → Type 0
 IsPlain (Begin b) = Unit {0}
 IsPlain (Start s) = IsPlainStart (out-KStmt s.stmt)
+IsPlain (Finish s v) = Unit {0}
 IsPlain a = ⊥
 
 -- What one step of the reference semantics does in a turn the machine does too, where the leaf acts so, and where the image has the positions that
