@@ -1,45 +1,40 @@
 -- A trail that waits for an input, or for ever.
-use Rattle.std.proofs.Common.{◌≡◌, ◌≢◌, refl, sym, ap, ◌∙◌, subst, ◌<◌, ◌≤◌, ℕ, zero, suc, ◌+◌, ◌*◌, ◌^◌, Bool, true, false, List, [], ◌∷◌, ◌++◌, length, Option, Some, None, arith}
-use Rattle.std.specs.Prelude.{nat_lt, slice_get}
+use Rattle.std.proofs.Common.{◌≡◌, refl, sym, ap, ◌∙◌, subst, ◌<◌, ◌≤◌, ℕ, ◌+◌, Bool, true, List, [], ◌∷◌, length, Option, Some, arith}
 use Rattle.std.proofs.lemmas.Bool.{lt-ltb, and_parts}
 use Rattle.std.proofs.lemmas.Option.{slice_get_within}
-use Rattle.ceu_base.specs.declared.kinds.Port.{Port}
 use Rattle.ceu_base.specs.declared.kinds.Pos.{Pos}
 use Rattle.ceu_base.specs.declared.kinds.Ty.{Ty}
 use Rattle.ceu_code.specs.declared.image.Image.{Image}
-use Rattle.ceu_code.specs.declared.instr.Instr.{Instr}
 use Rattle.ceu_code.specs.declared.instr.Instr.TheVariants as instr
-use Rattle.ceu_code.specs.Instructions.{size}
 use Rattle.ceu_mem.specs.declared.gate.Gate.{Gate}
 use Rattle.ceu_mem.specs.Memory.{IsGate}
 use Rattle.ceu_isa.specs.declared.registers.Registers.{Registers}
-use Rattle.ceu_isa.specs.Layout.{on_input, forever, gates_at, slots_at, end_of, gate_of, gate_changed}
+use Rattle.ceu_isa.specs.Layout.{on_input, forever, gates_at, gate_of, gate_changed}
 use Rattle.ceu_isa.specs.Fetching.{fetched}
-use Rattle.ceu_isa.specs.Effects.{Effect, Pauses, provided}
+use Rattle.ceu_isa.specs.Effects.{Pauses, provided}
 use Rattle.ceu_isa.specs.Rows.{effect}
 use Rattle.ceu_isa.specs.Trails.{kept, kept_for}
-use Rattle.ceu_isa.specs.Turns.{Machine, Trail, behind, rewritten}
+use Rattle.ceu_isa.specs.Turns.{Machine}
 use Rattle.ceu_tree.specs.declared.kernel.Kernel.{Kernel}
 use Rattle.ceu_tree.specs.declared.kernel.KNode.{KNode}
-use Rattle.ceu_tree.specs.declared.kernel.KBlock.{KBlock, out-KBlock}
-use Rattle.ceu_tree.specs.declared.kernel.KStmt.{KStmt, out-KStmt, AwaitIn, Forever}
+use Rattle.ceu_tree.specs.declared.kernel.KBlock.{KBlock}
+use Rattle.ceu_tree.specs.declared.kernel.KStmt.{out-KStmt, AwaitIn, Forever}
 use Rattle.ceu_tree.specs.declared.kernel.KStmt.TheOpen.{KStmt-F}
 use Rattle.ceu_tree.specs.declared.kernel.Loc.{Loc}
 use Rattle.ceu_tree.specs.Leaf as does
 use Rattle.ceu_tree.specs.Leaf.{acted}
 use Rattle.ceu_tree.specs.Proper.{Scope, is_trail, port_ty, on_ty, takes_if, stmt_ok}
-use Rattle.ceu_tree.specs.Residual.{Program, Act, Start, Residual, WaitInput, WaitForever, no_instance}
-use Rattle.ceu_tree.specs.Focus.{Frame, OfBlock, Focus, Here, In}
+use Rattle.ceu_tree.specs.Residual.{Program, Start, WaitInput, WaitForever, no_instance}
+use Rattle.ceu_tree.specs.Focus.{Frame, OfBlock, Here, In}
 use Rattle.ceu_tree.specs.Around.{Moved, Rests}
 use Rattle.ceu_tree.specs.Step.{stepped}
 use Rattle.ceu_tree.specs.Weight.{weight}
 use Rattle.ceu_tree.specs.World.{World}
 use Rattle.ceu_legal.specs.Shape.{block_scope}
 use Rattle.ceu_legal.proofs.Static.{names_of}
-use Rattle.ceu_shape.specs.Plans.{Plan, own_label, end_label}
+use Rattle.ceu_shape.specs.Plans.{Plan, own_label}
 use Rattle.ceu_shape.specs.Shape.{parts_draft}
 use Rattle.ceu_stands.specs.Laws.{AreBytes}
-use Rattle.ceu_stands.specs.Leaves.{LeafStands}
 use Rattle.ceu_stands.specs.Stands.{Stands}
 use Rattle.ceu_stands.specs.Views as views
 use Rattle.ceu_stands.specs.Views.{View, view, gate_seen, Keeps}
@@ -50,7 +45,7 @@ use Rattle.ceu_trail.specs.Coming.{Comes}
 use Rattle.ceu_trail.specs.Parts.{GatesAt}
 use Rattle.ceu_trail.specs.Tables.{tables}
 use Rattle.ceu_trail.specs.Turning.{home}
-use Rattle.ceu_steps.specs.Running.{Runs, trail_at}
+use Rattle.ceu_steps.specs.Running.{trail_at}
 use Rattle.ceu_steps.specs.Premises.{BuiltLaws}
 use Rattle.ceu_steps.specs.Reached.{wrap, filled}
 use Rattle.ceu_steps.proofs.Ticks.{onward}

@@ -1,6 +1,5 @@
 -- A do begins and ends, and the program ends.
-use Rattle.std.proofs.Common.{◌≡◌, ◌≢◌, refl, sym, ap, ◌∙◌, subst, ◌<◌, ◌≤◌, inl, inr, ℕ, ◌+◌, ◌-◌, ◌*◌, ◌^◌, ℤ, pos, Bool, true, false, ◌&&◌, List, [], ◌∷◌, ◌++◌, length, Option, Some, None, arith}
-use Rattle.std.specs.Prelude.{nat_lt, nat_le, if◌then◌else◌}
+use Rattle.std.proofs.Common.{◌≡◌, refl, sym, ap, ◌∙◌, subst, ◌<◌, ◌≤◌, inr, ℕ, ◌+◌, ℤ, pos, Bool, true, false, ◌&&◌, List, [], ◌∷◌, ◌++◌, length, Option, Some, None, arith}
 use Rattle.std.proofs.lemmas.Bool.{and_parts, le-leb}
 use Rattle.std.proofs.lemmas.List.{append-nil}
 use Rattle.ceu_base.specs.declared.kinds.Mark.{Mark}
@@ -11,18 +10,15 @@ use Rattle.ceu_code.specs.declared.image.Image.{Image}
 use Rattle.ceu_code.specs.declared.instr.Instr.TheVariants as instr
 use Rattle.ceu_code.specs.Instructions.{cell}
 use Rattle.ceu_asm.specs.declared.line.Line.{Line}
-use Rattle.ceu_mem.specs.Bytes.{number_at, with_number}
+use Rattle.ceu_mem.specs.Bytes.{number_at}
 use Rattle.ceu_mem.specs.Memory.{with_sign}
-use Rattle.ceu_mem.proofs.Views.{length-with_number, number_outside, number_written}
+use Rattle.ceu_mem.proofs.Views.{number_outside, number_written}
 use Rattle.ceu_isa.specs.declared.registers.Registers.{Registers}
-use Rattle.ceu_isa.specs.Layout.{cell_at, scratch_at, with_scratch, with_state, ended, end_of}
+use Rattle.ceu_isa.specs.Layout.{cell_at, scratch_at, with_scratch, with_state, ended}
 use Rattle.ceu_isa.specs.Fetching.{fetched}
 use Rattle.ceu_isa.specs.Effects as isa
 use Rattle.ceu_isa.specs.Effects.{Finishes, provided}
-use Rattle.ceu_isa.specs.Cells.{has_top, below}
-use Rattle.ceu_isa.specs.Reactions.{value_of_end}
 use Rattle.ceu_isa.specs.Rows.{effect}
-use Rattle.ceu_isa.specs.Turns as machine
 use Rattle.ceu_isa.specs.Turns.{Machine, Trail, rewritten}
 use Rattle.ceu_fetch.specs.Placed.{Placed}
 use Rattle.ceu_evaluates.specs.Does.{Does, stays, goes}
@@ -30,7 +26,7 @@ use Rattle.ceu_evaluates.proofs.Steps.{pushes}
 use Rattle.ceu_tree.specs.declared.kernel.Kernel.{Kernel}
 use Rattle.ceu_tree.specs.declared.kernel.KNode.{KNode}
 use Rattle.ceu_tree.specs.declared.kernel.KBlock.{KBlock, out-KBlock}
-use Rattle.ceu_tree.specs.declared.kernel.KStmt.{KStmt, out-KStmt, Do}
+use Rattle.ceu_tree.specs.declared.kernel.KStmt.{out-KStmt, Do}
 use Rattle.ceu_tree.specs.declared.kernel.Loc.{Loc}
 use Rattle.ceu_tree.specs.Abort.{closed, instances_aborted}
 use Rattle.ceu_tree.specs.Leaf as does
@@ -38,36 +34,35 @@ use Rattle.ceu_tree.specs.Leaf.{acted, target, next_of, rest_of}
 use Rattle.ceu_tree.specs.Proper.{Scope, outside_finalizers, takes, stmt_ok, block_ok, with_aim, do_aim}
 use Rattle.ceu_tree.specs.Residual.{Program, Act, Begin, Start, AtEnd, no_instance}
 use Rattle.ceu_tree.specs.Focus.{Frame, OfBlock, OfOpen, Focus, Here, In}
-use Rattle.ceu_tree.specs.Around.{Outcome, Goes, Past, Ends, AtBlockEnd, Moved, moved, taken, up}
+use Rattle.ceu_tree.specs.Around.{Goes, Ends, AtBlockEnd, Moved, moved, taken}
 use Rattle.ceu_tree.specs.Step.{stepped}
 use Rattle.ceu_tree.specs.World.{World, assign, assign_if}
-use Rattle.ceu_legal.specs.Shape.{ABlock, AStatement, AnEnd, block_scope}
+use Rattle.ceu_legal.specs.Shape.{ABlock, AnEnd, block_scope}
 use Rattle.ceu_legal.proofs.Static.{names_of}
 use Rattle.ceu_shape.specs.Plans.{Plan, own_label, end_label}
-use Rattle.ceu_shape.specs.Words.{mark, plain, goto, store}
+use Rattle.ceu_shape.specs.Words.{plain, goto, store}
 use Rattle.ceu_shape.specs.Searches.{node_of_block}
 use Rattle.ceu_shape.specs.Shape.{parts_draft}
 use Rattle.ceu_stands.specs.Views.{view}
 use Rattle.ceu_trail.specs.Built.{at_label, behind, ending, StatementBuilt, ListBuilt}
 use Rattle.ceu_trail.specs.Compiled.{Compiled}
-use Rattle.ceu_trail.specs.Coming.{Comes, ComesToEnd, SameMarks}
+use Rattle.ceu_trail.specs.Coming.{Comes}
 use Rattle.ceu_trail.specs.Tables.{tables}
 use Rattle.ceu_trail.specs.Turning.{MemoryHolds}
-use Rattle.ceu_trail.specs.Within.{ValuesWithin, all_declared}
+use Rattle.ceu_trail.specs.Within.{ValuesWithin}
 use Rattle.ceu_within.proofs.Around.{zero_value}
 use Rattle.ceu_within.proofs.Scopes.{target_in}
-use Rattle.ceu_within.proofs.Widths.{variable, closed_within, nothing_more}
+use Rattle.ceu_within.proofs.Widths.{closed_within, nothing_more}
 use Rattle.ceu_steps.specs.Running.{Runs, Unseen, trail_at}
 use Rattle.ceu_steps.specs.Premises.{BuiltLaws}
-use Rattle.ceu_steps.specs.Reached.{wrap, is_whole, Reached, at_program, at_statement, at_end, in_part}
+use Rattle.ceu_steps.specs.Reached.{wrap, Reached}
 use Rattle.ceu_steps.specs.Live.{vars_in}
 use Rattle.ceu_steps.proofs.Comes.{StandsIn, comes_on, no_marks, reaches_by}
 use Rattle.ceu_steps.proofs.Evaluates.{does_spare}
 use Rattle.ceu_steps.proofs.Finishes.{store_passed}
-use Rattle.ceu_steps.proofs.Frames.{AllCount, opens_is, step_is, past_goes, up_in, up_here}
+use Rattle.ceu_steps.proofs.Frames.{opens_is, step_is, past_goes, up_in, up_here}
 use Rattle.ceu_steps.proofs.Lines.{goto_runs, line_runs}
-use Rattle.ceu_steps.proofs.Places.{opens_of}
-use Rattle.ceu_steps.proofs.Simple.{Passed, passed_on}
+use Rattle.ceu_steps.proofs.Simple.{passed_on}
 use Rattle.ceu_steps.proofs.Ticks.{onward, did}
 use Rattle.ceu_steps.proofs.Turns.{Standing, AtStart, counts_stay, reached, among, scene, fine, cells}
 use Rattle.ceu_steps.proofs.Unseen.{holds_unseen, unseen_numbers, kept_unseen}

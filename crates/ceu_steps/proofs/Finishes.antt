@@ -1,6 +1,6 @@
 -- A statement that has waited goes on: the header's value goes to its target.
-use Rattle.std.proofs.Common.{◌≡◌, ◌≢◌, refl, sym, ap, ◌∙◌, subst, ◌<◌, ◌≤◌, ℕ, ◌+◌, ◌*◌, ℤ, Bool, true, false, ◌&&◌, List, [], ◌∷◌, ◌++◌, Option, Some, None, Contains, arith}
-use Rattle.std.specs.Prelude.{not, if◌then◌else◌}
+use Rattle.std.proofs.Common.{◌≡◌, ◌≢◌, refl, sym, ap, ◌∙◌, subst, ◌<◌, ◌≤◌, ℕ, ◌+◌, ℤ, Bool, true, ◌&&◌, List, [], ◌∷◌, Option, Some, None, arith}
+use Rattle.std.specs.Prelude.{not}
 use Rattle.std.proofs.lemmas.Bool.{and_parts, false≢true}
 use Rattle.std.proofs.lemmas.List.{append-nil}
 use Rattle.ceu_base.specs.declared.kinds.Pos.{Pos}
@@ -13,10 +13,9 @@ use Rattle.ceu_code.specs.Instructions.{cell}
 use Rattle.ceu_asm.specs.declared.line.Line.{Line}
 use Rattle.ceu_mem.specs.Bytes.{number_at}
 use Rattle.ceu_mem.specs.Memory.{value_at, with_value}
-use Rattle.ceu_isa.specs.declared.registers.Registers.{Registers}
 use Rattle.ceu_isa.specs.Layout.{slots_at, cell_at, scratch_at}
 use Rattle.ceu_isa.specs.Fetching.{fetched, cell_type}
-use Rattle.ceu_isa.specs.Effects.{Effect, Goes, provided}
+use Rattle.ceu_isa.specs.Effects.{Goes, provided}
 use Rattle.ceu_isa.specs.Cells.{pushed}
 use Rattle.ceu_isa.specs.Rows.{effect}
 use Rattle.ceu_isa.specs.Turns.{Machine, Trail, rewritten}
@@ -26,23 +25,23 @@ use Rattle.ceu_evaluates.proofs.Steps.{pushes, cell_value}
 use Rattle.ceu_tree.specs.declared.kernel.Kernel.{Kernel}
 use Rattle.ceu_tree.specs.declared.kernel.KExp.{KExp}
 use Rattle.ceu_tree.specs.declared.kernel.KNode.{KNode}
-use Rattle.ceu_tree.specs.declared.kernel.KBlock.{KBlock, out-KBlock}
-use Rattle.ceu_tree.specs.declared.kernel.KStmt.{KStmt, out-KStmt, AwaitIn, AwaitTime}
+use Rattle.ceu_tree.specs.declared.kernel.KBlock.{KBlock}
+use Rattle.ceu_tree.specs.declared.kernel.KStmt.{out-KStmt, AwaitIn, AwaitTime}
 use Rattle.ceu_tree.specs.declared.kernel.KStmt.TheOpen.{KStmt-F}
 use Rattle.ceu_tree.specs.declared.kernel.Loc.{Loc}
 use Rattle.ceu_tree.specs.declared.kernel.Unit.{Unit as KernelUnit}
 use Rattle.ceu_tree.specs.Leaf as does
 use Rattle.ceu_tree.specs.Leaf.{acted, target}
 use Rattle.ceu_tree.specs.Proper.{Scope, is_trail, reads, is_loop_variable, looked_up, takes, takes_if, time_ok, port_ty, on_ty, stmt_ok}
-use Rattle.ceu_tree.specs.Residual.{Program, Act, Finish, no_instance}
-use Rattle.ceu_tree.specs.Focus.{Frame, OfBlock, Focus, Here, In}
+use Rattle.ceu_tree.specs.Residual.{Program, Finish, no_instance}
+use Rattle.ceu_tree.specs.Focus.{Frame, OfBlock, Here, In}
 use Rattle.ceu_tree.specs.Step.{stepped}
 use Rattle.ceu_tree.specs.Typing.{same_ty, holds_all}
 use Rattle.ceu_tree.specs.World.{World, assign, assign_if}
 use Rattle.ceu_legal.specs.Shape.{block_scope}
 use Rattle.ceu_legal.proofs.Static.{names_of}
 use Rattle.ceu_shape.specs.Plans.{Plan, own_label, end_label}
-use Rattle.ceu_shape.specs.Words.{mark, plain, goto, store}
+use Rattle.ceu_shape.specs.Words.{plain, goto, store}
 use Rattle.ceu_shape.specs.Searches.{input_ty, ty_or_none}
 use Rattle.ceu_shape.specs.Shape.{parts_draft}
 use Rattle.ceu_stands.specs.Views.{view}
@@ -57,7 +56,7 @@ use Rattle.ceu_within.proofs.Scopes.{TargetIn, target_in}
 use Rattle.ceu_steps.specs.Running.{Runs, Unseen, trail_at}
 use Rattle.ceu_steps.specs.Premises.{BuiltLaws}
 use Rattle.ceu_steps.specs.Reached.{wrap}
-use Rattle.ceu_steps.specs.Live.{vars_in, slots_in, hidden_in}
+use Rattle.ceu_steps.specs.Live.{vars_in}
 use Rattle.ceu_steps.proofs.Assigns.{store_is}
 use Rattle.ceu_steps.proofs.Comes.{StandsIn, no_marks}
 use Rattle.ceu_steps.proofs.Evaluates.{does_spare}
@@ -67,7 +66,7 @@ use Rattle.ceu_steps.proofs.Outs.{port_of}
 use Rattle.ceu_steps.proofs.Simple.{Passed, pass_comes}
 use Rattle.ceu_steps.proofs.Store.{store_runs, stored, room, hidden_is_in}
 use Rattle.ceu_steps.proofs.Ticks.{onward}
-use Rattle.ceu_steps.proofs.Turns.{Standing, sizes_of, counts_stay, reached, among, scene, fine, live, cells, stops}
+use Rattle.ceu_steps.proofs.Turns.{Standing, sizes_of, counts_stay, among, scene, fine, live, cells, stops}
 use Rattle.ceu_steps.proofs.Unseen.{holds_unseen, unseen_numbers, kept_unseen}
 use denote.Hole.Carrier
 

@@ -1,5 +1,5 @@
 -- A focus inside frames: its leaf, what an outcome makes of it, its counters and its place in the code.
-use Rattle.std.proofs.Common.{◌≡◌, refl, sym, ap, ◌∙◌, subst, ℕ, ◌+◌, ℤ, Bool, true, false, List, [], ◌∷◌, ◌++◌, Option, Some, None}
+use Rattle.std.proofs.Common.{◌≡◌, refl, ap, ◌∙◌, ℕ, true, List, [], ◌∷◌}
 use Rattle.ceu_base.specs.declared.kinds.Fault.{Fault}
 use Rattle.ceu_base.specs.declared.kinds.Pos.{Pos}
 use Rattle.ceu_code.specs.declared.image.Image.{Image}
@@ -7,11 +7,11 @@ use Rattle.ceu_tree.specs.declared.kernel.Kernel.{Kernel}
 use Rattle.ceu_tree.specs.declared.kernel.KNode.{KNode}
 use Rattle.ceu_tree.specs.declared.kernel.KBlock.{KBlock}
 use Rattle.ceu_tree.specs.Residual.{Body, Program, Act, Residual, Over, no_instance}
-use Rattle.ceu_tree.specs.Focus.{Frame, OfBlock, OfInstance, OfOpen, OfLoop, OfCall, OfPar, Focus, Here, In, fill, plug, graft, leaf, body_of, body_in}
+use Rattle.ceu_tree.specs.Focus.{Frame, OfBlock, OfOpen, OfLoop, Focus, Here, In, fill, plug, graft, leaf, body_of, body_in}
 use Rattle.ceu_tree.specs.World.{World}
 use Rattle.ceu_tree.specs.Leaf as does
 use Rattle.ceu_tree.specs.Leaf.{Done, acted, next_of, rest_of}
-use Rattle.ceu_tree.specs.Around.{Outcome, Goes, Rests, Fails, Past, AtBlockEnd, AtLoopHead, Moved, moved, through, up, taken}
+use Rattle.ceu_tree.specs.Around.{Outcome, Goes, Rests, Fails, Past, Moved, moved, through, up, taken}
 use Rattle.ceu_tree.specs.Step.{does_in, stepped}
 use Rattle.ceu_legal.specs.Shape.{Part}
 use Rattle.ceu_shape.specs.Plans.{Plan}

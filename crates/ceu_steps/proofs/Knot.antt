@@ -1,5 +1,5 @@
 -- One step of a turn, by what its leaf does.
-use Rattle.std.proofs.Common.{◌≡◌, refl, sym, ap, ◌∙◌, subst, ◌≤◌, ℕ, ◌+◌, ℤ, Bool, true, false, List, [], ◌∷◌, ◌++◌, Option, Some, None}
+use Rattle.std.proofs.Common.{◌≡◌, sym, ap, ◌∙◌, subst, ℕ, ℤ, Bool, true, List, [], ◌∷◌, Some, None}
 use Rattle.std.specs.Prelude.{◌&&◌}
 use Rattle.std.proofs.lemmas.Bool.{and_from, false≢true}
 use Rattle.ceu_base.specs.declared.kinds.Pos.{Pos}
@@ -8,23 +8,22 @@ use Rattle.ceu_isa.specs.declared.registers.Registers.{Registers}
 use Rattle.ceu_isa.specs.Turns.{Machine}
 use Rattle.ceu_tree.specs.declared.kernel.Kernel.{Kernel}
 use Rattle.ceu_tree.specs.declared.kernel.KNode.{KNode}
-use Rattle.ceu_tree.specs.declared.kernel.KBlock.{KBlock, out-KBlock}
+use Rattle.ceu_tree.specs.declared.kernel.KBlock.{KBlock}
 use Rattle.ceu_tree.specs.declared.kernel.KStmt.{KStmt, out-KStmt, Nothing, Assign, Out, AwaitIn, AwaitTime, Forever, Do}
 use Rattle.ceu_tree.specs.Proper.{Scope}
 use Rattle.ceu_tree.specs.Residual.{Body, Program, Act, Begin, Start, Finish, no_instance}
-use Rattle.ceu_tree.specs.Focus.{Frame, OfBlock, Focus, Here, In, leaf, body_of}
+use Rattle.ceu_tree.specs.Focus.{Frame, OfBlock, Focus, Here, leaf, body_of}
 use Rattle.ceu_tree.specs.Step.{stepped}
 use Rattle.ceu_tree.specs.World.{World}
 use Rattle.ceu_tree.specs.Run.{Turning}
-use Rattle.ceu_legal.specs.Shape.{Part, ABlock, AStatement, ActFits, begins, starts, finishes, TurnFits, program_part, block_scope, pauses}
-use Rattle.ceu_values.specs.Needed.{Valued}
-use Rattle.ceu_values.specs.Ready.{act_has, layer_has}
+use Rattle.ceu_legal.specs.Shape.{Part, AStatement, ActFits, begins, starts, finishes, program_part, block_scope, pauses}
+use Rattle.ceu_values.specs.Ready.{act_has}
 use Rattle.ceu_values.proofs.RunValues.{config_reads}
 use Rattle.ceu_endings.proofs.Shapes.{one_trail, no_codes}
 use Rattle.ceu_single.specs.Single.{stmt_single}
 use Rattle.ceu_shape.specs.Plans.{Plan}
 use Rattle.ceu_trail.specs.Compiled.{Compiled}
-use Rattle.ceu_trail.specs.Within.{Variable, TurnWithin, ValuesWithin, in_focus, act_brings}
+use Rattle.ceu_trail.specs.Within.{Variable, ValuesWithin, in_focus, act_brings}
 use Rattle.ceu_trail.specs.Turning.{TurnStands}
 use Rattle.ceu_trail.specs.Coming.{Comes}
 use Rattle.ceu_trail.proofs.Codes.{program_is_built, frames_are_built, blocks_open, lists_begin}
@@ -32,10 +31,10 @@ use Rattle.ceu_trail.proofs.Planned.{gates_are_first, gates_nest}
 use Rattle.ceu_trail.proofs.Stops.{stops_are_there}
 use Rattle.ceu_steps.specs.Running.{trail_at}
 use Rattle.ceu_steps.specs.Premises.{BuiltLaws, PositionsArePlaced}
-use Rattle.ceu_steps.specs.Reached.{wrap, Reached, at_program, at_statement, at_end, in_part, in_turn}
+use Rattle.ceu_steps.specs.Reached.{wrap, Reached, at_program, at_statement}
 use Rattle.ceu_steps.specs.Live.{vars_in}
 use Rattle.ceu_steps.specs.Laws.{IsPlainStart, IsPlain, PlainStepsAreDone}
-use Rattle.ceu_steps.proofs.Frames.{leaf_wrap, body_wrap}
+use Rattle.ceu_steps.proofs.Frames.{body_wrap}
 use Rattle.ceu_steps.proofs.Lines.{is_trail_at}
 use Rattle.ceu_steps.proofs.Comes.{stands_in}
 use Rattle.ceu_steps.proofs.Finds.{found_in, vars_here}
@@ -48,7 +47,7 @@ use Rattle.ceu_steps.proofs.Times as times
 use Rattle.ceu_steps.proofs.Finishes as ended
 use Rattle.ceu_steps.proofs.Finishes.{AtFinish, input_comes}
 use Rattle.ceu_steps.proofs.Ends.{do_comes}
-use Rattle.ceu_steps.proofs.Turns.{Standing, AtStart, single_of}
+use Rattle.ceu_steps.proofs.Turns.{AtStart, single_of}
 use denote.Hole.Carrier
 
 pub laws_of : PositionsArePlaced → BuiltLaws

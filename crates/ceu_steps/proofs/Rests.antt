@@ -1,5 +1,5 @@
 -- A trail that waits: its gate is set, and what is left of the program stands in the memory.
-use Rattle.std.proofs.Common.{◌≡◌, ◌≢◌, refl, sym, ap, ◌∙◌, subst, ◌<◌, ◌≤◌, ◌⊎◌, inl, inr, ⊎_elim, ℕ, zero, suc, ◌+◌, ◌*◌, ◌^◌, Bool, true, false, List, [], ◌∷◌, ◌++◌, length, Option, Some, None, arith}
+use Rattle.std.proofs.Common.{◌≡◌, refl, sym, ap, ◌∙◌, subst, ◌<◌, ◌≤◌, ◌⊎◌, inl, inr, ⊎_elim, ℕ, ◌+◌, ◌*◌, Bool, true, false, List, [], ◌∷◌, length, Some, arith}
 use Rattle.std.proofs.lemmas.List.{append-nil}
 use Rattle.std.specs.List.{list_all}
 use Rattle.std.specs.Prelude.{slice_index, nat_lt, nat_le, if◌then◌else◌, ◌&&◌}
@@ -11,11 +11,11 @@ use Rattle.ceu_code.specs.Instructions.{size}
 use Rattle.ceu_mem.specs.declared.gate.Gate.{Gate}
 use Rattle.ceu_mem.specs.Bytes.{number_at}
 use Rattle.ceu_mem.specs.Memory.{IsGate, gate_at}
-use Rattle.ceu_mem.proofs.Gates.{get_put_same, get_put_other, put_length, byte_elsewhere}
+use Rattle.ceu_mem.proofs.Gates.{get_put_same, put_length, byte_elsewhere}
 use Rattle.ceu_isa.specs.declared.registers.Registers.{Registers}
-use Rattle.ceu_isa.specs.Layout.{free, state_of, top_of, given_of, gates_at, slots_at, end_of, in_slots, gate_of, gate_put, gate_changed}
+use Rattle.ceu_isa.specs.Layout.{free, gates_at, slots_at, end_of, in_slots, gate_of, gate_put, gate_changed}
 use Rattle.ceu_isa.specs.Fetching.{fetched}
-use Rattle.ceu_isa.specs.Effects.{Effect, Goes, Pauses, provided}
+use Rattle.ceu_isa.specs.Effects.{Goes, Pauses, provided}
 use Rattle.ceu_isa.specs.Rows.{effect}
 use Rattle.ceu_isa.specs.Turns as machine
 use Rattle.ceu_isa.specs.Turns.{Machine, Trail, State, behind, changed, rewritten, trail_did}
@@ -28,29 +28,25 @@ use Rattle.ceu_tree.specs.declared.kernel.KBlock.{KBlock, out-KBlock}
 use Rattle.ceu_tree.specs.declared.kernel.KStmt.{out-KStmt}
 use Rattle.ceu_tree.specs.Legal.{finalizers_of}
 use Rattle.ceu_tree.specs.Proper.{Scope}
-use Rattle.ceu_tree.specs.Residual.{Body, Program, Residual, Block, Open, Loop, no_instance}
+use Rattle.ceu_tree.specs.Residual.{Program, Residual, Block, Open, Loop, no_instance}
 use Rattle.ceu_tree.specs.Focus.{Frame, OfBlock, OfOpen, OfLoop}
 use Rattle.ceu_tree.specs.World.{World}
-use Rattle.ceu_legal.specs.Shape.{Part, ABlock, AStatement, AnEnd, FrameFits, around_statement, around_end, around_part, around_turn, none_lives, block_scope, part_scope, turn_scope}
+use Rattle.ceu_legal.specs.Shape.{Part, ABlock, AStatement, around_statement, around_part, around_turn, none_lives, block_scope, part_scope, turn_scope}
 use Rattle.ceu_shape.specs.Plans.{Plan}
 use Rattle.ceu_shape.specs.Searches.{node_of_block}
-use Rattle.ceu_single.specs.Single.{is_variable, is_variable_decl, block_single}
+use Rattle.ceu_single.specs.Single.{is_variable, is_variable_decl}
 use Rattle.ceu_evaluates.proofs.Numbers.{number_agrees}
 use Rattle.ceu_stands.specs.Laws.{AreBytes}
-use Rattle.ceu_stands.specs.Leaves.{LeafStands, LeafGate, leaf_node}
 use Rattle.ceu_stands.specs.Parts.{finalizers, pools_gates, Vacant, VacantIn, decl_gates}
 use Rattle.ceu_stands.specs.Stands.{Stands}
 use Rattle.ceu_stands.specs.Tables.{Tables}
-use Rattle.ceu_stands.specs.Values.{BetweenStands}
 use Rattle.ceu_stands.specs.Views as views
 use Rattle.ceu_stands.specs.Views.{View, view, slot_number, gate_seen, no_gate, Home}
-use Rattle.ceu_stands.proofs.Gates.{is_gate}
 use Rattle.ceu_trail.specs.Compiled.{Compiled}
-use Rattle.ceu_trail.specs.Coming.{ComesToRest, SameMarks}
-use Rattle.ceu_trail.specs.Parts.{GatesAt, part_gates}
-use Rattle.ceu_trail.specs.Plain.{BlockPlain}
+use Rattle.ceu_trail.specs.Coming.{ComesToRest}
+use Rattle.ceu_trail.specs.Parts.{part_gates}
 use Rattle.ceu_trail.specs.Tables.{tables}
-use Rattle.ceu_trail.specs.Turning.{home, FrameCounts, MemoryHolds}
+use Rattle.ceu_trail.specs.Turning.{home, MemoryHolds}
 use Rattle.ceu_trail.proofs.Plain.{blocks_are_plain}
 use Rattle.ceu_steps.specs.Running.{Runs, trail_at}
 use Rattle.ceu_steps.specs.Premises.{BuiltLaws}

@@ -1,6 +1,6 @@
 -- A trail that waits for a time.
-use Rattle.std.proofs.Common.{◌≡◌, ◌≢◌, refl, sym, ap, ◌∙◌, subst, ◌<◌, ◌≤◌, ℕ, zero, suc, ◌+◌, ◌-◌, ◌*◌, ◌^◌, max, min, ℤ, pos, negsuc, ◌*ℤ◌, Bool, true, false, ◌&&◌, List, [], ◌∷◌, ◌++◌, length, Option, Some, None, Result, Ok, Err, arith}
-use Rattle.std.specs.Prelude.{nat_lt, not, ◌||◌, if◌then◌else◌}
+use Rattle.std.proofs.Common.{◌≡◌, refl, sym, ap, ◌∙◌, subst, ◌<◌, ◌≤◌, ℕ, ◌+◌, ◌^◌, ℤ, pos, negsuc, ◌*ℤ◌, Bool, true, ◌&&◌, List, [], ◌∷◌, length, Option, Some, None, Ok, Err, arith}
+use Rattle.std.specs.Prelude.{not, ◌||◌, if◌then◌else◌}
 use Rattle.std.proofs.lemmas.Bool.{lt-ltb, and_parts, false≢true}
 use Rattle.ceu_base.specs.declared.kinds.Pos.{Pos}
 use Rattle.ceu_base.specs.declared.kinds.Ty.{Ty}
@@ -13,15 +13,14 @@ use Rattle.ceu_code.specs.Instructions.{cell, size}
 use Rattle.ceu_mem.specs.declared.gate.Gate.{Gate}
 use Rattle.ceu_mem.specs.Bytes.{number_at}
 use Rattle.ceu_mem.specs.Memory.{IsGate}
-use Rattle.ceu_isa.specs.declared.registers.Registers.{Registers}
-use Rattle.ceu_isa.specs.Layout.{on_time, slots_at, end_of, cell_at, gate_of, gate_changed}
+use Rattle.ceu_isa.specs.Layout.{on_time, cell_at, gate_of, gate_changed}
 use Rattle.ceu_isa.specs.Fetching.{fetched}
-use Rattle.ceu_isa.specs.Effects.{Effect, Pauses, provided, for_some}
-use Rattle.ceu_isa.specs.Cells.{Popped, popped}
+use Rattle.ceu_isa.specs.Effects.{Pauses, provided, for_some}
+use Rattle.ceu_isa.specs.Cells.{Popped}
 use Rattle.ceu_isa.specs.Rows.{effect}
 use Rattle.ceu_isa.specs.Trails as trails
 use Rattle.ceu_isa.specs.Trails.{kept_until, pause, unit_time}
-use Rattle.ceu_isa.specs.Turns.{Machine, Trail, rewritten}
+use Rattle.ceu_isa.specs.Turns.{Machine, rewritten}
 use Rattle.ceu_fetch.specs.Placed.{Placed}
 use Rattle.ceu_evaluates.specs.Seen.{NodePlaced}
 use Rattle.ceu_evaluates.proofs.Steps.{pops}
@@ -31,8 +30,8 @@ use Rattle.ceu_results.proofs.Results.{results_are_values}
 use Rattle.ceu_tree.specs.declared.kernel.Kernel.{Kernel}
 use Rattle.ceu_tree.specs.declared.kernel.KExp.{KExp}
 use Rattle.ceu_tree.specs.declared.kernel.KNode.{KNode}
-use Rattle.ceu_tree.specs.declared.kernel.KBlock.{KBlock, out-KBlock}
-use Rattle.ceu_tree.specs.declared.kernel.KStmt.{KStmt, out-KStmt, AwaitTime}
+use Rattle.ceu_tree.specs.declared.kernel.KBlock.{KBlock}
+use Rattle.ceu_tree.specs.declared.kernel.KStmt.{out-KStmt, AwaitTime}
 use Rattle.ceu_tree.specs.declared.kernel.KStmt.TheOpen.{KStmt-F}
 use Rattle.ceu_tree.specs.declared.kernel.Loc.{Loc}
 use Rattle.ceu_tree.specs.declared.kernel.Unit.{Unit as KernelUnit}
@@ -42,9 +41,9 @@ use Rattle.ceu_tree.specs.Expressions.{Answer, value_of}
 use Rattle.ceu_tree.specs.Leaf as does
 use Rattle.ceu_tree.specs.Leaf.{acted, or_fails, microseconds}
 use Rattle.ceu_tree.specs.Proper.{Scope, is_trail, reads, asks, takes_if, time_ok, is_time_literal, stmt_ok}
-use Rattle.ceu_tree.specs.Residual.{Program, Act, Start, Residual, WaitTime, no_instance}
-use Rattle.ceu_tree.specs.Focus.{Frame, OfBlock, Focus, Here, In}
-use Rattle.ceu_tree.specs.Around.{Moved, Rests}
+use Rattle.ceu_tree.specs.Residual.{Program, Start, WaitTime, no_instance}
+use Rattle.ceu_tree.specs.Focus.{Frame, OfBlock, Here, In}
+use Rattle.ceu_tree.specs.Around.{Moved}
 use Rattle.ceu_tree.specs.Step.{stepped}
 use Rattle.ceu_tree.specs.Typing.{typed, is_amount, is_open, same_ty, holds_all}
 use Rattle.ceu_tree.specs.World.{World}
@@ -55,7 +54,6 @@ use Rattle.ceu_shape.specs.Plans.{Plan, own_label, end_label}
 use Rattle.ceu_shape.specs.Words.{mark}
 use Rattle.ceu_shape.specs.Shape.{parts_draft, exp_part}
 use Rattle.ceu_values.specs.Ready.{layer_has, exp_has}
-use Rattle.ceu_stands.specs.Leaves.{LeafStands}
 use Rattle.ceu_stands.specs.Stands.{Stands}
 use Rattle.ceu_stands.specs.Views as views
 use Rattle.ceu_stands.specs.Views.{View, view, Keeps}
@@ -66,10 +64,10 @@ use Rattle.ceu_trail.specs.Parts.{GatesAt}
 use Rattle.ceu_trail.specs.Tables.{tables}
 use Rattle.ceu_trail.specs.Turning.{home}
 use Rattle.ceu_within.proofs.Leaf.{exp_reads}
-use Rattle.ceu_steps.specs.Running.{Runs, trail_at}
-use Rattle.ceu_steps.specs.Ready.{Brings, Breaks, Evaluated}
+use Rattle.ceu_steps.specs.Running.{trail_at}
+use Rattle.ceu_steps.specs.Ready.{Evaluated}
 use Rattle.ceu_steps.specs.Premises.{BuiltLaws, LayerPlaced}
-use Rattle.ceu_steps.specs.Reached.{wrap, filled}
+use Rattle.ceu_steps.specs.Reached.{wrap}
 use Rattle.ceu_steps.specs.Live.{vars_in}
 use Rattle.ceu_steps.proofs.Assigns.{front}
 use Rattle.ceu_steps.proofs.Awaits.{old_gate}
