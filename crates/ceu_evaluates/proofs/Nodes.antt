@@ -1,6 +1,6 @@
 -- The lines of each expression do what the reference semantics says.
-use Rattle.std.proofs.Common.{◌≡◌, ◌≢◌, refl, sym, ap, ◌∙◌, subst, ◌≤◌, ℕ, ◌+◌, max, ℤ, Bool, true, false, List, [], ◌∷◌, Some, Ok, arith}
-use Rattle.std.specs.Prelude.{slice_get, if◌then◌else◌, ◌&&◌, ◌||◌, not}
+use Rattle.std.proofs.Common.{◌≡◌, ◌≢◌, refl, sym, ap, ◌∙◌, subst, ◌≤◌, ℕ, ◌+◌, max, ℤ, Bool, true, false, List, [], ◌∷◌, Ok, arith}
+use Rattle.std.specs.Prelude.{if◌then◌else◌, ◌&&◌, ◌||◌, not}
 use Rattle.ceu_base.specs.declared.kinds.Ty.{Ty}
 use Rattle.ceu_base.specs.declared.kinds.Ty.TheVariants as ty
 use Rattle.ceu_base.specs.declared.kinds.Pos.{Pos}
@@ -31,7 +31,7 @@ use Rattle.ceu_tree.specs.World.{World, look, place_of}
 use Rattle.ceu_results.specs.Results.{NodeReads, OperandReads, IsResult}
 use Rattle.ceu_results.proofs.Operators.{and_left, and_right, bool_is, same_is}
 use Rattle.ceu_results.proofs.Results.{operand_result}
-use Rattle.ceu_evaluates.specs.Seen.{SaysAlive, VariableSeen, NodeSeen, OperandSeen, NodePlaced, OperandPlaced}
+use Rattle.ceu_evaluates.specs.Seen.{SaysAlive, VariableSeen, NodeSeen, OperandSeen, NodePlaced, OperandPlaced, OperatorPlaced}
 use Rattle.ceu_evaluates.specs.Laws.{ExpressionsEvaluate}
 use Rattle.ceu_evaluates.proofs.Runs.{Runs, run_one, run_prefix, run_convert, run_binary, run_and, run_or}
 use Rattle.ceu_evaluates.proofs.Steps.{kept_itself}
@@ -118,7 +118,7 @@ module _ (image : Image) (labels offset : ℕ → ℕ) (number : Pos → ℕ) (b
   -- ---- binary operators
 
   two_runs : (op : Op2) (x y : Bool) (t a b : Ty) (p : Pos) (d e : Draft) (left right : List ℕ → Type 0) (m n : ℕ) (u v : Answer) → fits2 op x y t a b ≡ true → 1 ≤ m → 1 ≤ n → IsResult a u → IsResult b v
-      → slice_get image.places (number p) ≡ Some p → Runs image labels number frame d left m u → Runs image labels number frame e right n v
+      → OperatorPlaced image number op p → Runs image labels number frame d left m u → Runs image labels number frame e right n v
       → Runs image labels number frame (two_draft op t a b p d e) (λ bs. left bs × right bs) (max m (1 + n)) (and_then u (λ i. if decides op i then Ok i else and_then v (λ j. at p (applied2 op t i j))))
   two_runs op2.And x y t a b p d e left right m n u v h some more ra rb place rd re =
       let ab = and_left (is_bool t && is_bool a) (is_bool b) h in

@@ -2,6 +2,8 @@
 use Rattle.std.specs.Prelude.{◌≡◌, ◌≢◌, ℕ, ◌+◌, Bool, true, false, if◌then◌else◌, List, Some, slice_get}
 use Rattle.ceu_base.specs.declared.kinds.Ty.TheVariants as ty
 use Rattle.ceu_base.specs.declared.kinds.Pos.{Pos}
+use Rattle.ceu_base.specs.declared.kinds.Op2.{Op2}
+use Rattle.ceu_base.specs.declared.kinds.Op2.TheVariants.{Or, And}
 use Rattle.ceu_base.specs.Values.{IsValue}
 use Rattle.ceu_code.specs.declared.image.Image.{Image}
 use Rattle.ceu_mem.specs.Memory.{size, value_at}
@@ -51,14 +53,20 @@ module _ (image : Image) (offset : ℕ → ℕ) (frame : ℕ) (body : Body) (w :
 
 -- `number` gives the numbers of positions
 module _ (image : Image) (number : Pos → ℕ) where
+  -- `and` and `or` are jumps, which name no position
+  abbrev pub OperatorPlaced : Op2 → Pos → Type 0
+  OperatorPlaced And p = Unit {0}
+  OperatorPlaced Or p = Unit {0}
+  OperatorPlaced op p = slice_get image.places (number p) ≡ Some p
+
   unfoldable mutual
-    -- the image has the position of each operator under its number
+    -- the image has the position of each other operator under its number
     pub NodePlaced : KExpNode → Pos → Type 0
     NodePlaced (Const v) p = Unit {0}
     NodePlaced (Read l) p = Unit {0}
     NodePlaced (Alive c) p = Unit {0}
     NodePlaced (One' op _ a) p = OperandPlaced a × (slice_get image.places (number p) ≡ Some p)
-    NodePlaced (Two' op _ a _ b) p = OperandPlaced a × OperandPlaced b × (slice_get image.places (number p) ≡ Some p)
+    NodePlaced (Two' op _ a _ b) p = OperandPlaced a × OperandPlaced b × OperatorPlaced op p
     NodePlaced (As' _ a) p = OperandPlaced a
 
     pub OperandPlaced : {n : _} → Row_of-KExp n → Type 0
