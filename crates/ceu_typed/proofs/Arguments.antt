@@ -1,5 +1,5 @@
 -- The arguments of a call fit the parameters of its code.
-use Rattle.std.proofs.Common.{◌≡◌, refl, sym, ap, ◌∙◌, subst, ℕ, zero, suc, ◌+◌, ◌≤◌, length, drop, arith, List, [], ◌∷◌, ◌++◌, Option, Some, None, Bool, true, false, inl, inr}
+use Rattle.std.proofs.Common.{◌≡◌, sym, ap, ◌∙◌, subst, ℕ, suc, ◌+◌, length, drop, arith, List, [], ◌∷◌, Some, Bool, true, false, inl, inr}
 use Rattle.std.specs.Prelude.{if◌then◌else◌, slice_get, ◌==◌}
 use Rattle.std.proofs.lemmas.Bool.Decides.{Decides-eqb}
 use Rattle.std.proofs.lemmas.Option.{slice_get_past}
@@ -20,11 +20,11 @@ use Rattle.ceu_types.specs.Uses.{type_of_decl, is_parameter, leading_parameters,
 use Rattle.ceu_types.specs.Expressions.{given}
 use Rattle.ceu_types.specs.Statements.{arguments_found, call_found}
 use Rattle.ceu_expand.specs.declared.draft.Draft.{Draft}
-use Rattle.ceu_expand.specs.Lists.{each, gathered}
+use Rattle.ceu_expand.specs.Lists.{gathered}
 use Rattle.ceu_expand.specs.Uses.{used}
 use Rattle.ceu_expand.specs.Expressions.{exp_passed, exp_written}
 use Rattle.ceu_exits.proofs.Fine.{fine_own, fine_passed}
-use Rattle.ceu_exits.proofs.Beside.{Alike, Level}
+use Rattle.ceu_exits.proofs.Beside.{Alike}
 use Rattle.ceu_typed.specs.Typed.{ExpGiven, ArgGiven, ArgsGiven}
 use Rattle.ceu_typed.proofs.Noting.{step_then, own_step, used_step}
 use Rattle.ceu_typed.proofs.Passing.{given_step, arguments_step}
@@ -65,8 +65,7 @@ module _ (s : Scopes) (t : Types) (place : Where) where
       let rest = arguments_step s t code (i + 1) es g c in
       let one : At s t place f d g = record { fine = rest.under.back place h.fine; more = rest.grows h.more; level = h.level; count = h.count } in
       let two : At s t place g c (arguments_found s code (i + 1) es g) = record { fine = h.fine; more = h.more; level = first.under.level h.level; count = first.counts h.count } in
-      let k = leads (is_parameter y.class) (leading_parameters ds) m.1 in
-      (
+      let k = leads (is_parameter y.class) (leading_parameters ds) m.1 in (
         first_given p y.ty (exp_written s t e d) m.0 (subst (λ v. ExpGiven v (exp_written s t e d)) type_is (given_ok s t place e u f d one)),
         args_given code xs same es (i + 1) ps ds (shift_get xs y ds i here) (omega (arith, count, k)) m.2 g c two,
       )

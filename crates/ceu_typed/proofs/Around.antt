@@ -1,25 +1,22 @@
 -- A statement with what is around it in the text and in the kernel; exits are typed.
-use Rattle.std.proofs.Common.{◌≡◌, refl, sym, ap, ◌∙◌, subst, ℕ, length, List, [], ◌∷◌, Option, Some, None, Result, Ok, Bool, true, false}
-use Rattle.std.specs.Prelude.{⊤, IsTrue, if◌then◌else◌}
+use Rattle.std.proofs.Common.{◌≡◌, refl, ap, ◌∙◌, subst, ℕ, List, Option, Some, None, Ok, true, false}
+use Rattle.std.specs.Prelude.{⊤}
 use Rattle.ceu_base.specs.declared.kinds.Ty.{Ty}
 use Rattle.ceu_base.specs.declared.kinds.Pos.{Pos}
 use Rattle.ceu_base.specs.declared.kinds.Rule.TheVariants.{T5}
 use Rattle.ceu_tree.specs.declared.source.Ident.{Ident}
 use Rattle.ceu_tree.specs.declared.source.Exp.{Exp}
 use Rattle.ceu_tree.specs.declared.kernel.Kernel.{Kernel}
-use Rattle.ceu_tree.specs.declared.kernel.KArm.{KArm}
-use Rattle.ceu_tree.specs.declared.kernel.KBlock.{KBlock}
 use Rattle.ceu_tree.specs.declared.kernel.KStmt as kernel
 use Rattle.ceu_tree.specs.declared.kernel.KStmt.{KStmt}
 use Rattle.ceu_tree.specs.Proper.{Aim, Where, outside_finalizers}
 use Rattle.ceu_scopes.specs.declared.known.Scopes.{Scopes}
 use Rattle.ceu_scopes.specs.declared.walk.Walk.{Walk}
-use Rattle.ceu_scopes.specs.Walk.{Broken, ◌>>=◌}
 use Rattle.ceu_scopes.specs.Names.{if_exp_walked, escape_walked, leave_walked}
 use Rattle.ceu_types.specs.declared.typing.Types.{Types}
 use Rattle.ceu_types.specs.declared.found.Found.{Found}
 use Rattle.ceu_types.specs.declared.around.Around as types_around
-use Rattle.ceu_types.specs.Notes.{asks_own, not_in_async, not_in_finalizer, begun, ended}
+use Rattle.ceu_types.specs.Notes.{asks_own, not_in_finalizer, begun, ended}
 use Rattle.ceu_types.specs.Expressions.{or_none}
 use Rattle.ceu_types.specs.Around as types
 use Rattle.ceu_types.specs.Around.{target_takes, takes_value, jumped}
@@ -31,20 +28,19 @@ use Rattle.ceu_expand.specs.Draft.{placed}
 use Rattle.ceu_expand.specs.Uses as uses
 use Rattle.ceu_expand.specs.Expressions.{if_exp_passed, if_exp_written}
 use Rattle.ceu_expand.specs.Parts.{simple, escaped}
-use Rattle.ceu_proper.specs.Shaped.{AllOf}
 use Rattle.ceu_proper.proofs.Frames.{frame_if_exp}
 use Rattle.ceu_exits.specs.Exits.{taken_at}
 use Rattle.ceu_exits.proofs.Fine.{Fine, fine_own, fine_async, fine_finalizer, fine_ended, fine_begun}
 use Rattle.ceu_exits.proofs.Held.{Rel, rel_step}
-use Rattle.ceu_typed.specs.Typed.{MaybeGiven, OnTy, StmtTyped, BlockTyped, ArmTyped}
+use Rattle.ceu_typed.specs.Typed.{MaybeGiven, StmtTyped}
 use Rattle.ceu_typed.proofs.Noting as noting
 use Rattle.ceu_typed.proofs.Passing.{if_given_step, left_step, escape_step, jumped_step}
 use Rattle.ceu_typed.proofs.Expressing.{At}
 use Rattle.ceu_typed.proofs.Naming.{then_ok, goes_then}
-use Rattle.ceu_typed.proofs.Walking.{calm_same, if_exp_goes, escape_goes}
-use Rattle.ceu_typed.proofs.Running.{Step, Run, of_goes, step_then, found_step, calm_step, first_run, last_run, at_run, around_step, inside_run}
+use Rattle.ceu_typed.proofs.Walking.{if_exp_goes, escape_goes}
+use Rattle.ceu_typed.proofs.Running.{Step, Run, of_goes, step_then, found_step, first_run, last_run, around_step, inside_run}
 use Rattle.ceu_typed.proofs.Holding.{Holds, holds_placed}
-use Rattle.ceu_typed.proofs.Leaves.{PartIf, Part, parts_of, begun_parts, on_ty, maybe_given}
+use Rattle.ceu_typed.proofs.Leaves.{PartIf, parts_of, begun_parts, on_ty, maybe_given}
 use Rattle.ceu_typed.proofs.Wrapping.{ended_same, begun_same, wrap_step, wrap_run}
 
 module _ (s : Scopes) (t : Types) (numbers : List ℕ) (K : Kernel) (code : Option ℕ) where

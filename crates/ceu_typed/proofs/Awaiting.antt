@@ -1,7 +1,6 @@
 -- Awaits are typed, and the variables that take their values.
-use Rattle.std.proofs.Common.{◌≡◌, refl, sym, ap, ◌∙◌, subst, ℕ, List, [], ◌∷◌, Option, Some, None, Result, Ok}
+use Rattle.std.proofs.Common.{◌≡◌, refl, sym, ◌∙◌, subst, ℕ, List, [], ◌∷◌, Option, Some, None, Result, Ok}
 use Rattle.std.specs.Prelude.{⊤}
-use Rattle.ceu_base.specs.declared.kinds.Ty.{Ty}
 use Rattle.ceu_base.specs.declared.kinds.Ty.TheVariants as ty
 use Rattle.ceu_base.specs.declared.kinds.Pos.{Pos}
 use Rattle.ceu_tree.specs.declared.source.Call.{Call}
@@ -30,27 +29,26 @@ use Rattle.ceu_types.specs.Uses.{use_type}
 use Rattle.ceu_types.specs.Expressions.{condition}
 use Rattle.ceu_types.specs.Statements.{call_found, target_found, target_type, await_found, await_type}
 use Rattle.ceu_expand.specs.declared.draft.Draft.{Draft}
-use Rattle.ceu_expand.specs.Draft.{begun, hidden, placed, opened, block_of, around_block}
+use Rattle.ceu_expand.specs.Draft.{begun, hidden, opened, block_of, around_block}
 use Rattle.ceu_expand.specs.Lists.{each, gathered}
 use Rattle.ceu_expand.specs.Uses.{use_number}
 use Rattle.ceu_expand.specs.Uses as uses
 use Rattle.ceu_expand.specs.Expressions.{exp_passed, exp_written}
 use Rattle.ceu_expand.specs.Parts.{simple, nothing_in, await_written, target_passed, target_awaited, broken_if, awaited_and_asked, awaited_until, code_awaited, awaited}
-use Rattle.ceu_proper.proofs.Frames.{frame, frame_used, frame_exp, frame_each, frame_target}
+use Rattle.ceu_proper.proofs.Frames.{frame_used, frame_exp, frame_each, frame_target}
 use Rattle.ceu_exits.proofs.Beside.{same_type}
 use Rattle.ceu_exits.proofs.Held.{around_parts}
 use Rattle.ceu_typed.specs.Times.{TargetTimed, AwaitTimed}
 use Rattle.ceu_typed.specs.Typed.{ArgsGiven, MaybeTakes, event_ty, StmtTyped, BlockTyped}
-use Rattle.ceu_typed.proofs.Noting as noting
 use Rattle.ceu_typed.proofs.Noting.{none_step, hidden_step}
 use Rattle.ceu_typed.proofs.Passing.{condition_step, call_step, target_step}
 use Rattle.ceu_typed.proofs.Giving.{condition_ok, time_ok, literal_ok}
 use Rattle.ceu_typed.proofs.Arguments.{call_given}
-use Rattle.ceu_typed.proofs.Naming.{then_ok, ok_is, goes_then, named_ok, named_goes, calm_goes}
+use Rattle.ceu_typed.proofs.Naming.{then_ok, ok_is, goes_then, named_ok, named_goes}
 use Rattle.ceu_typed.proofs.Walking.{calm_same, calm_hidden, exp_goes, exps_go, target_goes}
 use Rattle.ceu_typed.proofs.Using.{input_here, event_here, code_here}
-use Rattle.ceu_typed.proofs.Running.{Step, Run, of_goes, step_then, calm_step, first_run, last_run, at_run, block_step, block_run, around_step}
-use Rattle.ceu_typed.proofs.Holding.{Holds, holds_placed, holds_opened, holds_block, if_typed}
+use Rattle.ceu_typed.proofs.Running.{Step, Run, of_goes, step_then, calm_step, last_run, at_run, block_step, block_run, around_step}
+use Rattle.ceu_typed.proofs.Holding.{holds_placed, holds_opened, holds_block, if_typed}
 use Rattle.ceu_typed.proofs.Leaves.{PartIf, Part, part_then, placed_part, simple_part, parts_of, begun_parts, hidden_parts, on_ty, on_code}
 
 module _ (s : Scopes) (t : Types) (numbers : List ℕ) (K : Kernel) (code : Option ℕ) where

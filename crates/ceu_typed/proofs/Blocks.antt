@@ -1,44 +1,42 @@
 -- Blocks, labels and loops around statements.
-use Rattle.std.proofs.Common.{◌≡◌, refl, sym, ap, ◌∙◌, subst, ℕ, ◌+◌, ◌≤◌, length, arith, List, [], ◌∷◌, Option, Some, None, Result, Ok, Bool, true, false}
-use Rattle.std.specs.Prelude.{⊤, IsTrue, not, if◌then◌else◌}
+use Rattle.std.proofs.Common.{◌≡◌, refl, sym, ap, ◌∙◌, subst, ℕ, length, arith, List, [], ◌∷◌, Option, Some, None, Ok, Bool, true, false}
+use Rattle.std.specs.Prelude.{not, if◌then◌else◌}
 use Rattle.ceu_base.specs.declared.kinds.Ty.{Ty}
 use Rattle.ceu_base.specs.declared.kinds.Ty.TheVariants as ty
-use Rattle.ceu_base.specs.declared.kinds.Pos.{Pos}
 use Rattle.ceu_base.specs.declared.kinds.Rule.TheVariants.{T1, T2, T5}
 use Rattle.ceu_tree.specs.declared.source.Ident.{Ident}
 use Rattle.ceu_tree.specs.declared.source.Label.{Label}
 use Rattle.ceu_tree.specs.declared.source.Label.TheVariants as label
 use Rattle.ceu_tree.specs.declared.source.Exp.{Exp}
-use Rattle.ceu_tree.specs.declared.source.Target.{Target}
 use Rattle.ceu_tree.specs.declared.kernel.Kernel.{Kernel}
 use Rattle.ceu_tree.specs.declared.kernel.Loc.{Loc}
 use Rattle.ceu_tree.specs.Typing.{same_ty, holds_all}
-use Rattle.ceu_tree.specs.Proper.{Aim, Where}
+use Rattle.ceu_tree.specs.Proper.{Where}
 use Rattle.ceu_scopes.specs.declared.known.Scopes.{Scopes}
 use Rattle.ceu_scopes.specs.declared.walk.Walk.{Walk}
 use Rattle.ceu_scopes.specs.Names.{labelled, unlabelled}
 use Rattle.ceu_types.specs.declared.typing.Types.{Types}
 use Rattle.ceu_types.specs.declared.found.Found.{Found}
 use Rattle.ceu_types.specs.Typing.{is_none_type, holds}
-use Rattle.ceu_types.specs.Notes.{asks, asks_own, past, passed, not_in_every, not_in_async, not_in_finalizer}
+use Rattle.ceu_types.specs.Notes.{asks_own, past, passed, not_in_every, not_in_async, not_in_finalizer}
 use Rattle.ceu_types.specs.Around as types
-use Rattle.ceu_types.specs.Statements.{taken, waits, acts, name_typed, every_ended}
+use Rattle.ceu_types.specs.Statements.{taken, waits, name_typed, every_ended}
 use Rattle.ceu_expand.specs.declared.around.Around as draft_around
 use Rattle.ceu_expand.specs.declared.draft.Draft.{Draft}
 use Rattle.ceu_expand.specs.Draft as draft
 use Rattle.ceu_expand.specs.Draft.{in_loop, in_do, hidden, standing, event_declared, input_declared, output_declared}
 use Rattle.ceu_expand.specs.Lists.{each}
-use Rattle.ceu_expand.specs.Expressions.{exp_passed, exp_written}
-use Rattle.ceu_expand.specs.Expansion.{turns_written, turns_passed, range_hidden, range_written, range_passed}
-use Rattle.ceu_proper.proofs.Frames.{frame, frame_standing, frame_exp}
+use Rattle.ceu_expand.specs.Expressions.{exp_passed}
+use Rattle.ceu_expand.specs.Expansion.{turns_written, turns_passed, range_hidden, range_passed}
+use Rattle.ceu_proper.proofs.Frames.{frame_standing, frame_exp}
 use Rattle.ceu_exits.proofs.Fine.{Fine, fine_asks, fine_own}
 use Rattle.ceu_exits.proofs.Beside as exits
 use Rattle.ceu_exits.proofs.Beside.{Alike, own_names}
-use Rattle.ceu_typed.specs.Typed.{LocTyped, MaybeTakes, TurnsTyped}
+use Rattle.ceu_typed.specs.Typed.{MaybeTakes, TurnsTyped}
 use Rattle.ceu_typed.proofs.Meeting.{implied, held, not_none}
 use Rattle.ceu_typed.proofs.Noting as noting
 use Rattle.ceu_typed.proofs.Noting.{prefix_as, none_step, hidden_step, standing_step, draft_step}
-use Rattle.ceu_typed.proofs.Naming.{Ends, Goes, goes_then, calm_goes}
+use Rattle.ceu_typed.proofs.Naming.{Goes, goes_then, calm_goes}
 use Rattle.ceu_typed.proofs.Walking.{calm_same, calm_hidden, calm_labelled, calm_unlabelled, labelled_goes, unlabelled_goes}
 use Rattle.ceu_typed.proofs.Running.{Step, Run, calm_step, step_then}
 use Rattle.ceu_typed.proofs.Leaves.{parts_of, hidden_parts}

@@ -1,19 +1,17 @@
 -- The body of a program and its codes are typed.
-use Rattle.std.proofs.Common.{◌≡◌, refl, sym, ap, ◌∙◌, subst, ℕ, ◌+◌, ◌<◌, length, arith, List, [], ◌∷◌, Option, Some, None, Result, Ok, inl}
+use Rattle.std.proofs.Common.{◌≡◌, refl, sym, ap, ◌∙◌, subst, ℕ, arith, List, [], ◌∷◌, Option, Some, None, Ok, inl}
 use Rattle.ceu_base.specs.declared.kinds.Ty.{Ty}
 use Rattle.ceu_base.specs.declared.kinds.Ty.TheVariants as ty
 use Rattle.ceu_base.specs.declared.kinds.Pos.{Pos}
-use Rattle.ceu_base.specs.declared.kinds.CheckError.{CheckError}
 use Rattle.ceu_tree.specs.declared.source.Block.{Block, Block', Row_of-Node, end_of-Node, more_of-Node}
 use Rattle.ceu_tree.specs.declared.source.Stmt as stmt
 use Rattle.ceu_tree.specs.declared.source.Stmt.{Stmt, Vars', If', Par'}
 use Rattle.ceu_tree.specs.declared.source.Tree.{Tree}
 use Rattle.ceu_tree.specs.declared.kernel.Kernel.{Kernel}
-use Rattle.ceu_tree.specs.Proper.{Aim, BodyAim, InTrail}
+use Rattle.ceu_tree.specs.Proper.{BodyAim, InTrail}
 use Rattle.ceu_scopes.specs.declared.known.Scopes.{Scopes}
 use Rattle.ceu_scopes.specs.declared.scope.Border.TheVariants.{Plain}
 use Rattle.ceu_scopes.specs.declared.walk.Walk.{Walk}
-use Rattle.ceu_scopes.specs.Shown.{rest_of}
 use Rattle.ceu_scopes.specs.Walk as walk
 use Rattle.ceu_scopes.specs.Walk.{Broken, ◌>>=◌}
 use Rattle.ceu_scopes.specs.Names.{stmt_walked, nodes_walked, block_walked, fresh_walk, gathered, scopes_of}
@@ -32,15 +30,15 @@ use Rattle.ceu_proper.proofs.Wrote.{stmt_wrote}
 use Rattle.ceu_exits.proofs.Fine.{Fine, fine_ended, fine_begun}
 use Rattle.ceu_exits.proofs.Held.{Rel}
 use Rattle.ceu_typed.specs.Times.{Timed, TimedNodes, TimedBlock, TreeTimed}
-use Rattle.ceu_typed.specs.Typed.{BlockTyped, BodyTyped, CodesTyped, KernelTyped}
-use Rattle.ceu_typed.proofs.Noting.{Prefix, prefix_as}
-use Rattle.ceu_typed.proofs.Naming.{then_ok, ok_is, prefix_same, Ends, Now, closed_ok}
+use Rattle.ceu_typed.specs.Typed.{BlockTyped, CodesTyped, KernelTyped}
+use Rattle.ceu_typed.proofs.Noting.{prefix_as}
+use Rattle.ceu_typed.proofs.Naming.{then_ok, ok_is, prefix_same, Ends, closed_ok}
 use Rattle.ceu_typed.proofs.Running.{Run}
-use Rattle.ceu_typed.proofs.Holding.{holds_opened, holds_block}
+use Rattle.ceu_typed.proofs.Holding.{holds_block}
 use Rattle.ceu_typed.proofs.Around.{Main}
 use Rattle.ceu_typed.proofs.Statements.{stmt_main}
 use Rattle.ceu_typed.proofs.Heads.{block_node, Stage}
-use Rattle.ceu_typed.proofs.Codes.{program_aims, Stood, Passes, code_passes}
+use Rattle.ceu_typed.proofs.Codes.{program_aims, Passes, code_passes}
 
 module _ (s : Scopes) (t : Types) where
   module _ (numbers : List ℕ) (K : Kernel) where

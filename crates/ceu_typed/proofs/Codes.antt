@@ -1,18 +1,17 @@
 -- Code of a program is typed in the kernel.
-use Rattle.std.proofs.Common.{◌≡◌, refl, sym, ap, ◌∙◌, subst, ℕ, ◌+◌, ◌<◌, ◌≤◌, length, arith, List, [], ◌∷◌, ◌++◌, Option, Some, None, Result, Ok, Bool, true, false}
-use Rattle.std.specs.Prelude.{IsTrue, nat_le}
+use Rattle.std.proofs.Common.{◌≡◌, refl, sym, ap, ◌∙◌, subst, ℕ, ◌≤◌, length, arith, List, [], ◌∷◌, ◌++◌, Option, Some, None, Ok, true}
+use Rattle.std.specs.Prelude.{nat_le}
 use Rattle.ceu_base.specs.declared.kinds.Ty.{Ty}
 use Rattle.ceu_base.specs.declared.kinds.Ty.TheVariants as ty
 use Rattle.ceu_base.specs.declared.kinds.Pos.{Pos}
 use Rattle.ceu_tree.specs.declared.source.Class.TheVariants as class
 use Rattle.ceu_tree.specs.declared.source.Ident.{Ident}
 use Rattle.ceu_tree.specs.declared.source.Param.{Param}
-use Rattle.ceu_tree.specs.declared.source.Block.{Block, Block', Row_of-Node}
+use Rattle.ceu_tree.specs.declared.source.Block.{Block, Block'}
 use Rattle.ceu_tree.specs.declared.source.Stmt as stmt
 use Rattle.ceu_tree.specs.declared.kernel.Kernel.{Kernel}
 use Rattle.ceu_tree.specs.declared.kernel.KCode.{KCode}
-use Rattle.ceu_tree.specs.declared.kernel.KDecl.{KDecl}
-use Rattle.ceu_tree.specs.declared.kernel.KBlock.{KBlock, out-KBlock}
+use Rattle.ceu_tree.specs.declared.kernel.KBlock.{KBlock}
 use Rattle.ceu_tree.specs.Leaf.{code_at}
 use Rattle.ceu_tree.specs.Proper.{Aim, BodyAim, InTrail}
 use Rattle.ceu_scopes.specs.declared.known.Scopes.{Scopes}
@@ -29,31 +28,28 @@ use Rattle.ceu_types.specs.Around.{program_around}
 use Rattle.ceu_types.specs.Statements.{params_found, stmt_found, block_found, nodes_found}
 use Rattle.ceu_expand.specs.declared.draft.Draft.{Draft}
 use Rattle.ceu_expand.specs.declared.draft.Parts.{Parts}
-use Rattle.ceu_expand.specs.Draft.{of_program, opened, around_block, standing, entered, left, with_code}
+use Rattle.ceu_expand.specs.Draft.{of_program, opened, around_block, left, with_code}
 use Rattle.ceu_expand.specs.Lists.{each}
 use Rattle.ceu_expand.specs.Parts.{param_declared}
 use Rattle.ceu_expand.specs.Expansion.{declared_in, code_begun, code_around, code_ended, stmt_written, nodes_written, block_written, block_passed}
-use Rattle.ceu_proper.specs.Shaped.{AllOf}
 use Rattle.ceu_proper.proofs.Codes.{NoCodeInBlock}
 use Rattle.ceu_proper.proofs.Inside.{append_assoc}
 use Rattle.ceu_proper.proofs.Wrote.{block_in}
-use Rattle.ceu_proper.proofs.Whole.{bare, params_are}
-use Rattle.ceu_visible.proofs.Stepping.{AllScopes, length_more}
+use Rattle.ceu_visible.proofs.Stepping.{AllScopes}
 use Rattle.ceu_exits.proofs.Fine.{Fine}
-use Rattle.ceu_exits.proofs.Beside.{Alike, Level}
+use Rattle.ceu_exits.proofs.Beside.{Level}
 use Rattle.ceu_exits.proofs.Held.{around_parts}
 use Rattle.ceu_typed.specs.Times.{TimedBlock}
-use Rattle.ceu_typed.specs.Typed.{ParamTyped, BlockTyped, BodyTyped, CodeTyped, CodesTyped}
-use Rattle.ceu_typed.proofs.Noting as noting
-use Rattle.ceu_typed.proofs.Noting.{Prefix}
+use Rattle.ceu_typed.specs.Typed.{BlockTyped, BodyTyped, CodeTyped, CodesTyped}
+use Rattle.ceu_typed.proofs.Noting.{level_as, Prefix}
 use Rattle.ceu_typed.proofs.Meaning.{Means}
-use Rattle.ceu_typed.proofs.Naming.{then_ok, prefix_then, prefix_same, Tables, Calm, Ends, Now, calm_goes, shows_more, shown_by, closed_ok}
+use Rattle.ceu_typed.proofs.Naming.{then_ok, prefix_same, Calm, Ends, Now, calm_goes, shows_more, shown_by, closed_ok}
 use Rattle.ceu_typed.proofs.Running.{Step, Run, block_step, block_run}
 use Rattle.ceu_typed.proofs.Holding.{Holds, holds_as, holds_opened, holds_block}
 use Rattle.ceu_typed.proofs.Parameters.{AllTyped, params_fine, params_notes}
-use Rattle.ceu_typed.proofs.Wrapping.{closed_back, closed_step, closed_run}
+use Rattle.ceu_typed.proofs.Wrapping.{closed_ends, closed_step, closed_run}
 use Rattle.ceu_typed.proofs.Statements.{nodes_main}
-use Rattle.ceu_typed.proofs.Heads.{block_node, code_next, codes_append, body_rel, Stage, Head, Opened, head_opened, Kept, head_kept, Inside, rest_scopes, more_decls, head_ends, head_now, head_stands, head_decls}
+use Rattle.ceu_typed.proofs.Heads.{block_node, code_next, codes_ended, params_typed, body_rel, Stage, Head, head_opened, head_kept, rest_scopes, more_decls, head_ends, head_now, head_stands, head_decls}
 
 module _ (s : Scopes) (t : Types) (numbers : List ℕ) (K : Kernel) where
   abbrev pub program_aims : List Aim
@@ -172,7 +168,7 @@ module _ (s : Scopes) (t : Types) (numbers : List ℕ) (K : Kernel) where
       let ended = code_is x result made d.parts after in
       let show = shown_by s numbers K None x (fresh class.Code 0 w) w4 v e m3.2 in
       let inner_ends : Ends s numbers K v e → Ends s numbers K w3 after = λ k.
-      (calm_goes s numbers K c w3 after e calm).ends (closed_back s t numbers K c w3 e (subst (λ w. Ends s numbers K w e) (closed_ok s numbers K c w3 w4 m2.2) (show.ends k))) in
+      (calm_goes s numbers K c w3 after e calm).ends (closed_ends s t numbers K c w3 w4 e m2.2 (show.ends k)) in
       let head : Ends s numbers K v e → Ends s numbers K w2 inside = λ k. inner.step.ends (inner_ends k) in
       let fine_params : Fine InTrail g → Fine InTrail f' = inner.step.notes.under.back InTrail in
       let after_codes : after.codes ≡ d.codes = ap (λ (e : Draft). e.codes) (block_in s t around blk k inside).stays ∙ kept.codes in
@@ -183,7 +179,7 @@ module _ (s : Scopes) (t : Types) (numbers : List ℕ) (K : Kernel) where
       let q = (show.ends k).codes in
       let all : K.codes ≡ d.codes ++ (kc ∷ q.0) = q.1 ∙ ap (λ cs. cs ++ q.0) (ended.codes ∙ ap (λ cs. cs ++ kc ∷ []) after_codes) ∙ append_assoc d.codes (kc ∷ []) q.0 in
       ap (code_at (length d.codes)) all ∙ code_next d.codes kc q.0 in
-      let level : Level s f d → Level s f' inside = λ l. asked.under.level (subst (λ n. Alike (length s.uses) f.names n) (sym kept.uses) l) in
+      let level : Level s f d → Level s f' inside = λ l. asked.under.level (level_as s f d inside kept.uses l) in
       let count : length f.types ≡ d.exps → length f'.types ≡ inside.exps = λ n. asked.counts (n ∙ sym kept.exps) in
       let typed_params : Fine InTrail g → AllTyped ps = λ fine. (params_fine InTrail x ps f (fine_params fine)).1 in
       let begin : Fine InTrail g → Ends s numbers K v e → Stage s t numbers K w f d → Now s numbers K c w2 inside = λ fine k st. head_now s t numbers K x ps result w w2 d o (typed_params fine) (head k) st.now in
@@ -201,7 +197,7 @@ module _ (s : Scopes) (t : Types) (numbers : List ℕ) (K : Kernel) where
             let numbers_same : length e.numbers ≡ length after.numbers = ap length calm.numbers in
             let first_node = st.node in
             record {
-              level = subst (λ n. Alike (length s.uses) g.names n) (sym calm.uses) (inner.step.notes.under.level (level st.level));
+              level = level_as s g after e calm.uses (inner.step.notes.under.level (level st.level));
               labels = inner.step.notes.under.labels ∙ asked.under.labels ∙ st.labels;
               node = omega (arith, node, first_node);
               count = inner.step.notes.counts (count st.count) ∙ sym ended.exps;
@@ -213,10 +209,9 @@ module _ (s : Scopes) (t : Types) (numbers : List ℕ) (K : Kernel) where
             let pf = params_fine InTrail x ps f (fine_params fine) in
             let count_is : length after.parts.decls ≡ length ps = ap length kc_params ∙ o.params.count in
             let small : nat_le (length after.parts.decls) 255 ≡ true = ap (λ n. nat_le n 255) count_is ∙ pf.0 in
-            let one : CodeTyped K (length d.codes) kc = (subst (AllOf ParamTyped) (sym kc_params) (o.params.typed pf.1), small, body) in
-            let place_is : 0 + length after.codes ≡ length d.codes = (let e : length after.codes ≡ length d.codes = ap length after_codes in omega (arith, e)) in
+            let one : CodeTyped K (length d.codes) kc = (params_typed o.params.ks after.parts.decls kc_params (o.params.typed pf.1), small, body) in
             record {
               body = holds_as K None program_aims d e ended.parts stood.body;
-              codes = subst (CodesTyped K 0) (sym ended.codes) (codes_append K 0 after.codes kc (subst (CodesTyped K 0) (sym after_codes) stood.codes) (subst (λ n. CodeTyped K n kc) (sym place_is) one));
+              codes = codes_ended K d.codes after.codes e.codes kc after_codes ended.codes stood.codes one;
             };
       }

@@ -1,6 +1,6 @@
 -- Declarations: what they stand for in the whole kernel, and their types.
-use Rattle.std.proofs.Common.{◌≡◌, refl, sym, ap, ◌∙◌, subst, ℕ, zero, suc, ◌+◌, ◌<◌, ◌≤◌, length, arith, List, [], ◌∷◌, ◌++◌, Option, Some, None, Result, Ok, Bool, true, false}
-use Rattle.std.specs.Prelude.{⊤, IsTrue, not, ◌==◌, if◌then◌else◌}
+use Rattle.std.proofs.Common.{◌≡◌, refl, sym, ap, ◌∙◌, subst, ℕ, ◌+◌, ◌<◌, length, arith, List, [], ◌∷◌, ◌++◌, Option, Some, None, Result, Ok, Bool, true, false}
+use Rattle.std.specs.Prelude.{⊤, not, if◌then◌else◌}
 use Rattle.std.proofs.lemmas.Bool.Decides.{Decides-eqb}
 use Rattle.ceu_base.specs.declared.kinds.Ty.{Ty}
 use Rattle.ceu_base.specs.declared.kinds.Ty.TheVariants as ty
@@ -18,7 +18,7 @@ use Rattle.ceu_tree.specs.declared.kernel.KKind.{KKind}
 use Rattle.ceu_tree.specs.declared.kernel.KKind.TheVariants as kind
 use Rattle.ceu_tree.specs.declared.kernel.KStmt as kernel
 use Rattle.ceu_tree.specs.Typing.{same_ty}
-use Rattle.ceu_tree.specs.Proper.{Where, Aim, port_ty, event_at, is_code}
+use Rattle.ceu_tree.specs.Proper.{Where, port_ty, event_at, is_code}
 use Rattle.ceu_scopes.specs.declared.known.Known.{Known}
 use Rattle.ceu_scopes.specs.declared.known.Role.TheVariants as role
 use Rattle.ceu_scopes.specs.declared.known.Scopes.{Scopes}
@@ -43,16 +43,15 @@ use Rattle.ceu_expand.specs.Parts.{started}
 use Rattle.ceu_proper.proofs.Inside.{append_assoc}
 use Rattle.ceu_proper.proofs.Frames.{frame_used}
 use Rattle.ceu_visible.proofs.Stepping.{length_more}
-use Rattle.ceu_exits.proofs.Beside as exits
 use Rattle.ceu_typed.specs.Typed.{event_ty, DeclTyped, StmtTyped}
 use Rattle.ceu_typed.proofs.Noting as noting
 use Rattle.ceu_typed.proofs.Noting.{Prefix, none_step, acts_step, used_step, declared_step, draft_step}
 use Rattle.ceu_typed.proofs.Meaning.{Means, MeansOf, Stands, HasType, PortIs, EventIs}
-use Rattle.ceu_typed.proofs.Naming.{then_ok, ok_is, prefix_same, Tables, same_tables, Ends, Now, Goes, goes_then, Takes, used_ok, used_goes, declared_ok, declared_goes, shown_by, stands_there}
-use Rattle.ceu_typed.proofs.Running.{Step, Run, of_goes, step_then, found_step, calm_step, first_run, last_run}
+use Rattle.ceu_typed.proofs.Naming.{then_ok, ok_is, prefix_same, same_tables, Ends, Goes, goes_then, Takes, used_ok, used_goes, declared_ok, declared_goes, shown_by, stands_there}
+use Rattle.ceu_typed.proofs.Running.{Run, of_goes}
 use Rattle.ceu_typed.proofs.Walking.{calm_same, still}
-use Rattle.ceu_typed.proofs.Holding.{Holds, holds_as, holds_declared}
-use Rattle.ceu_typed.proofs.Leaves.{PartIf, Part, part_then, same_part, simple_part, spawned_part, parts_of}
+use Rattle.ceu_typed.proofs.Holding.{holds_declared}
+use Rattle.ceu_typed.proofs.Leaves.{Part, part_then, same_part, simple_part, spawned_part, parts_of}
 
 module _ (s : Scopes) (numbers : List ℕ) (K : Kernel) (code : Option ℕ) where
   -- ---- numbers that are taken

@@ -1,6 +1,6 @@
 -- The expressions of a kernel have the types that their operators take.
-use Rattle.std.proofs.Common.{◌≡◌, refl, sym, ap, ◌∙◌, subst, ℕ, length, List, [], ◌∷◌, Option, Some, None, Bool, true, false}
-use Rattle.std.specs.Prelude.{⊤, IsTrue, ℤ, pos, neg_ℤ, option_map, ◌&&◌, ◌||◌, not, if◌then◌else◌}
+use Rattle.std.proofs.Common.{◌≡◌, refl, sym, ap, ◌∙◌, subst, ℕ, length, Option, Some, None, Bool, true, false}
+use Rattle.std.specs.Prelude.{⊤, ℤ, pos, neg_ℤ, option_map, ◌&&◌, ◌||◌, not, if◌then◌else◌}
 use Rattle.ceu_base.specs.declared.kinds.Ty.{Ty}
 use Rattle.ceu_base.specs.declared.kinds.Ty.TheVariants as ty
 use Rattle.ceu_base.specs.declared.kinds.Pos.{Pos}
@@ -8,9 +8,8 @@ use Rattle.ceu_base.specs.declared.kinds.Op1.{Op1}
 use Rattle.ceu_base.specs.declared.kinds.Op1.TheVariants as op1
 use Rattle.ceu_base.specs.declared.kinds.Op2.{Op2}
 use Rattle.ceu_base.specs.declared.kinds.Rule.{Rule}
-use Rattle.ceu_base.specs.declared.kinds.Rule.TheVariants.{T1, T2, T3, T7}
-use Rattle.ceu_base.specs.Values.{is_value, is_numeric, is_bool, of_test}
-use Rattle.ceu_tree.specs.declared.source.Exp.{Exp}
+use Rattle.ceu_base.specs.declared.kinds.Rule.TheVariants.{T1, T7}
+use Rattle.ceu_base.specs.Values.{is_value, is_numeric, of_test}
 use Rattle.ceu_tree.specs.declared.source.ExpNode as exp
 use Rattle.ceu_tree.specs.declared.source.ExpNode.{ExpNode, Row_of-Exp, end_of-Exp, more_of-Exp, One', Two', As'}
 use Rattle.ceu_tree.specs.declared.kernel.Loc.{Loc}
@@ -18,7 +17,6 @@ use Rattle.ceu_tree.specs.declared.kernel.KExp.{KExp}
 use Rattle.ceu_tree.specs.declared.kernel.KExpNode as knode
 use Rattle.ceu_tree.specs.declared.kernel.KExpNode.{KExpNode}
 use Rattle.ceu_tree.specs.declared.kernel.KExpNode.TheBlock.{hidden-the_row-KExp-0}
-use Rattle.ceu_tree.specs.Typing as kernel
 use Rattle.ceu_tree.specs.Typing.{same_ty, node_open, keeps_open, opens_both, fits1, fits2, node_typed}
 use Rattle.ceu_tree.specs.Proper.{Where}
 use Rattle.ceu_scopes.specs.declared.known.Scopes.{Scopes}
@@ -31,17 +29,16 @@ use Rattle.ceu_types.specs.Notes as notes
 use Rattle.ceu_types.specs.Uses.{use_type}
 use Rattle.ceu_types.specs.Expressions.{closed, int_literal, prefixed, joined, converted, type_in, or_none, prefix_wanted, left_wanted, right_wanted, meets1, meets2, row_negated, fits, negated_fits, literal_found, literal_or, node_past, row_past, node_operand, row_operand, node_found, row_found}
 use Rattle.ceu_expand.specs.declared.draft.Draft.{Draft}
-use Rattle.ceu_expand.specs.Uses.{variable, used, use_number}
-use Rattle.ceu_expand.specs.Uses as uses
+use Rattle.ceu_expand.specs.Uses.{variable, use_number}
 use Rattle.ceu_expand.specs.Expressions as written
 use Rattle.ceu_expand.specs.Expressions.{type_at, next_type, negated_or, node_passed, row_passed, node_written, operand_written}
-use Rattle.ceu_exits.proofs.Fine.{Fine, fine_asks, fine_typed, fine_passed}
+use Rattle.ceu_exits.proofs.Fine.{Fine, fine_asks, fine_typed}
 use Rattle.ceu_exits.proofs.Beside.{Level, same_type}
 use Rattle.ceu_typed.specs.Typed.{LeavesOk}
 use Rattle.ceu_typed.proofs.Meeting.{implied, both_hold, same_self, open_numeric, numeric_some, not_none}
-use Rattle.ceu_typed.proofs.Operands.{operand, placed_ty, one_fits, two_fits}
+use Rattle.ceu_typed.proofs.Operands.{placed_ty, one_fits, two_fits}
 use Rattle.ceu_typed.proofs.Noting.{Step, Prefix, noted, none_step, step_then, asks_step, note_step}
-use Rattle.ceu_typed.proofs.Passing.{node_step, row_step}
+use Rattle.ceu_typed.proofs.Passing.{row_step}
 use denote.Hole.Carrier
 
 -- an expression that is so by itself, has this type in its place
@@ -222,8 +219,7 @@ module _ (s : Scopes) (t : Types) where
         let f' = asks b r p f in
         let start = asks_step s t b r p f d in
         let note = note_step s t u f' d in
-        let fine' = step.under.back place h.fine in
-        (
+        let fine' = step.under.back place h.fine in (
           (fine_asks place b r p f (fine_typed place u f' fine')).0,
           noted s t u f' d (step.grows h.more) (start.counts h.count),
           record { fine = h.fine; more = h.more; level = note.under.level (start.under.level h.level); count = note.counts (start.counts h.count) },

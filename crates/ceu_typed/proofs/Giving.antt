@@ -1,18 +1,16 @@
 -- Values that are given, conditions and delays fit where they go.
-use Rattle.std.proofs.Common.{◌≡◌, refl, sym, ap, ◌∙◌, subst, ℕ, ◌<◌, ◌^◌, length, Option, Some, None, Bool, true, false}
-use Rattle.std.specs.Prelude.{IsTrue, ◌&&◌, ◌||◌, not, if◌then◌else◌, pos, nat_lt, option_map}
+use Rattle.std.proofs.Common.{◌≡◌, refl, sym, ap, ◌∙◌, subst, ℕ, ◌<◌, ◌^◌, Option, Some, Bool, true, false}
+use Rattle.std.specs.Prelude.{◌||◌, not, if◌then◌else◌, pos, nat_lt, option_map}
 use Rattle.std.proofs.lemmas.Bool.Decides.{Decides-ltb}
 use Rattle.ceu_base.specs.declared.kinds.Ty.{Ty}
 use Rattle.ceu_base.specs.declared.kinds.Ty.TheVariants as ty
 use Rattle.ceu_base.specs.declared.kinds.Pos.{Pos}
 use Rattle.ceu_base.specs.declared.kinds.Rule.{Rule}
 use Rattle.ceu_base.specs.declared.kinds.Rule.TheVariants.{T1, T2, T3}
-use Rattle.ceu_base.specs.Values.{is_numeric, is_bool}
+use Rattle.ceu_base.specs.Values.{is_bool}
 use Rattle.ceu_tree.specs.declared.source.Exp.{Exp}
-use Rattle.ceu_tree.specs.declared.kernel.Loc.{Loc}
 use Rattle.ceu_tree.specs.declared.kernel.Unit.{Unit as TimeUnit}
 use Rattle.ceu_tree.specs.declared.kernel.Unit.TheVariants.{Us}
-use Rattle.ceu_tree.specs.declared.kernel.KExp.{KExp}
 use Rattle.ceu_tree.specs.Typing as kernel
 use Rattle.ceu_tree.specs.Typing.{same_ty, holds_all, node_open, node_typed}
 use Rattle.ceu_tree.specs.Proper.{Where}
@@ -23,14 +21,14 @@ use Rattle.ceu_types.specs.declared.operands.Operand.{Operand}
 use Rattle.ceu_types.specs.Typing as types
 use Rattle.ceu_types.specs.Typing.{open_type, holds}
 use Rattle.ceu_types.specs.Notes.{asks}
-use Rattle.ceu_types.specs.Expressions.{type_in, or_none, node_operand, node_found, operand_of, type_of, is_held, is_truth, is_time, given, condition, time}
+use Rattle.ceu_types.specs.Expressions.{type_in, or_none, node_operand, node_found, operand_of, is_held, is_truth, is_time, given, condition, time}
 use Rattle.ceu_expand.specs.declared.draft.Draft.{Draft}
 use Rattle.ceu_expand.specs.Expressions.{type_at, next_type, constant, exp_written, node_written}
 use Rattle.ceu_exits.proofs.Fine.{fine_asks}
-use Rattle.ceu_typed.specs.Typed.{LeavesOk, ExpGiven, TimeGiven, is_literal}
+use Rattle.ceu_typed.specs.Typed.{ExpGiven, TimeGiven, is_literal}
 use Rattle.ceu_typed.proofs.Meeting.{implied, same_self, held, amounts}
 use Rattle.ceu_typed.proofs.Operands.{placed_ty}
-use Rattle.ceu_typed.proofs.Noting.{Step, asks_step}
+use Rattle.ceu_typed.proofs.Noting.{asks_step}
 use Rattle.ceu_typed.proofs.Passing.{node_step}
 use Rattle.ceu_typed.proofs.Expressing.{Fit, At, node_fit, names_asks, three_hold}
 

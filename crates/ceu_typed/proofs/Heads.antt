@@ -1,69 +1,50 @@
 -- The head of code: what its parameters stand for, and what code stands for behind it.
-use Rattle.std.proofs.Common.{◌≡◌, refl, sym, ap, ◌∙◌, subst, ℕ, zero, suc, ◌+◌, ◌<◌, ◌≤◌, length, drop, arith, List, [], ◌∷◌, ◌++◌, Option, Some, None, Result, Ok, Bool, true, false}
-use Rattle.std.specs.Prelude.{⊤, IsTrue, not, nat_le, ◌==◌, if◌then◌else◌}
+use Rattle.std.proofs.Common.{◌≡◌, refl, sym, ap, ◌∙◌, subst, ℕ, ◌+◌, ◌<◌, length, drop, arith, List, [], ◌∷◌, ◌++◌, Some, None, Ok, Bool, true, false}
+use Rattle.std.specs.Prelude.{◌==◌, if◌then◌else◌}
 use Rattle.std.proofs.lemmas.Bool.Decides.{Decides-eqb}
 use Rattle.std.proofs.lemmas.List.{drop_at}
 use Rattle.ceu_base.specs.declared.kinds.Ty.{Ty}
-use Rattle.ceu_base.specs.declared.kinds.Ty.TheVariants as ty
-use Rattle.ceu_base.specs.declared.kinds.Pos.{Pos}
 use Rattle.ceu_tree.specs.declared.source.Class.TheVariants as class
 use Rattle.ceu_tree.specs.declared.source.Decl.{Decl}
 use Rattle.ceu_tree.specs.declared.source.Ident.{Ident}
 use Rattle.ceu_tree.specs.declared.source.Param.{Param}
-use Rattle.ceu_tree.specs.declared.source.Block.{Block, Block', Row_of-Node}
 use Rattle.ceu_tree.specs.declared.kernel.Kernel.{Kernel}
 use Rattle.ceu_tree.specs.declared.kernel.KCode.{KCode}
 use Rattle.ceu_tree.specs.declared.kernel.KDecl.{KDecl}
-use Rattle.ceu_tree.specs.declared.kernel.KBlock.{KBlock, out-KBlock, roll-KBlock}
+use Rattle.ceu_tree.specs.declared.kernel.KBlock.{out-KBlock, roll-KBlock}
 use Rattle.ceu_tree.specs.Leaf.{code_at}
-use Rattle.ceu_tree.specs.Proper.{Aim, BodyAim, InTrail}
-use Rattle.ceu_scopes.specs.declared.known.Known.{Known}
+use Rattle.ceu_tree.specs.Proper.{BodyAim, InTrail}
 use Rattle.ceu_scopes.specs.declared.known.Scopes.{Scopes}
-use Rattle.ceu_scopes.specs.declared.scope.Border.TheVariants.{Plain, Body}
-use Rattle.ceu_scopes.specs.declared.scope.Scope.{Scope}
+use Rattle.ceu_scopes.specs.declared.scope.Border.TheVariants.{Body}
 use Rattle.ceu_scopes.specs.declared.walk.Walk.{Walk}
 use Rattle.ceu_scopes.specs.Shown.{rest_of}
 use Rattle.ceu_scopes.specs.Walk as walk
 use Rattle.ceu_scopes.specs.Walk.{Broken, ◌>>=◌, shown, fresh, block_of}
 use Rattle.ceu_scopes.specs.Rules.{inside_broken, declared}
-use Rattle.ceu_scopes.specs.Names as names
-use Rattle.ceu_scopes.specs.Names.{params_opened, code_opened, block_walked, nodes_walked, stmt_walked}
+use Rattle.ceu_scopes.specs.Names.{params_opened, code_opened}
 use Rattle.ceu_types.specs.declared.typing.Types.{Types}
 use Rattle.ceu_types.specs.declared.found.Found.{Found}
 use Rattle.ceu_types.specs.declared.around.Around as types_around
-use Rattle.ceu_types.specs.Around as types
 use Rattle.ceu_types.specs.Around.{label_takes}
-use Rattle.ceu_types.specs.Statements.{params_found, stmt_found, block_found, nodes_found}
 use Rattle.ceu_expand.specs.declared.around.Around as draft_around
 use Rattle.ceu_expand.specs.declared.draft.Draft.{Draft}
-use Rattle.ceu_expand.specs.declared.draft.Parts.{Parts}
 use Rattle.ceu_expand.specs.Draft.{opened, outside, written, closed, around_block, standing, entered, left, with_code}
 use Rattle.ceu_expand.specs.Draft as draft
 use Rattle.ceu_expand.specs.Lists.{each}
 use Rattle.ceu_expand.specs.Parts.{param_declared}
-use Rattle.ceu_expand.specs.Expansion.{declared_in, code_begun, code_around, code_ended, stmt_written, nodes_written, block_written, block_passed}
 use Rattle.ceu_proper.specs.Shaped.{AllOf}
-use Rattle.ceu_proper.proofs.Codes.{NoCode, NoCodeInBlock, NoCodeInNodes}
-use Rattle.ceu_proper.proofs.Inside.{append_assoc, append_none}
-use Rattle.ceu_proper.proofs.Wrote.{block_in}
+use Rattle.ceu_proper.proofs.Inside.{append_assoc}
 use Rattle.ceu_proper.proofs.Whole.{bare, params_are}
 use Rattle.ceu_visible.proofs.Stepping.{AllScopes, scopes_map, length_more}
 use Rattle.ceu_exits.specs.Exits.{taken_at}
-use Rattle.ceu_exits.proofs.Fine.{Fine}
-use Rattle.ceu_exits.proofs.Beside.{Alike, Level}
-use Rattle.ceu_exits.proofs.Held.{around_parts, Rel}
-use Rattle.ceu_typed.specs.Times.{Timed, TimedBlock, TimedNodes}
-use Rattle.ceu_typed.specs.Typed.{ParamTyped, BlockTyped, BodyTyped, CodeTyped, CodesTyped}
-use Rattle.ceu_typed.proofs.Noting as noting
+use Rattle.ceu_exits.proofs.Beside.{Level}
+use Rattle.ceu_exits.proofs.Held.{Rel}
+use Rattle.ceu_typed.specs.Typed.{ParamTyped, CodeTyped, CodesTyped}
 use Rattle.ceu_typed.proofs.Noting.{Prefix, prefix_less, prefix_as}
 use Rattle.ceu_typed.proofs.Meaning.{Means, means_inside, CodeIs, Matches}
-use Rattle.ceu_typed.proofs.Naming.{then_ok, prefix_then, prefix_same, Plainly, Tables, same_tables, Calm, Ends, Now, calm_goes, shows_more, declared_ok, declared_now, shown_by, stands_there, closed_ok, opened_now, opened_rest}
-use Rattle.ceu_typed.proofs.Running.{Step, Run, block_step, block_run}
-use Rattle.ceu_typed.proofs.Holding.{holds_opened, holds_block}
+use Rattle.ceu_typed.proofs.Naming.{then_ok, prefix_then, same_tables, Calm, Ends, Now, declared_ok, declared_now, stands_there, opened_now}
 use Rattle.ceu_typed.proofs.Declaring.{standing_takes, means_there}
-use Rattle.ceu_typed.proofs.Parameters.{Paired, pair_matches, AllTyped, params_fine, params_notes, Params, params_walked}
-use Rattle.ceu_typed.proofs.Wrapping.{closed_back, closed_step, closed_run}
-use Rattle.ceu_typed.proofs.Statements.{nodes_main}
+use Rattle.ceu_typed.proofs.Parameters.{pair_matches, AllTyped, Params, params_walked}
 use denote.Hole.Carrier
 
 own_body : (n : ℕ) (u : Ty) → taken_at n (BodyAim n u ∷ []) ≡ Some u
@@ -81,11 +62,19 @@ pub code_next : (xs : List KCode) (x : KCode) (ys : List KCode) → code_at (len
 code_next [] x ys = refl
 code_next (y ∷ xs) x ys = code_next xs x ys
 
-pub codes_append : (K : Kernel) (k : ℕ) (cs : List KCode) (c : KCode) → CodesTyped K k cs → CodeTyped K (k + length cs) c → CodesTyped K k (cs ++ c ∷ [])
+codes_append : (K : Kernel) (k : ℕ) (cs : List KCode) (c : KCode) → CodesTyped K k cs → CodeTyped K (k + length cs) c → CodesTyped K k (cs ++ c ∷ [])
 codes_append K k [] c h one = let e : k + 0 ≡ k = omega arith in (subst (λ n. CodeTyped K n c) e one, tt)
 codes_append K k (x ∷ cs) c h one =
     let e : k + length (x ∷ cs) ≡ (k + 1) + length cs = omega arith in
     (h.0, codes_append K (k + 1) cs c h.1 (subst (λ n. CodeTyped K n c) e one))
+
+pub codes_ended : (K : Kernel) (old new all : List KCode) (c : KCode) → new ≡ old → all ≡ new ++ c ∷ [] → CodesTyped K 0 old → CodeTyped K (length old) c → CodesTyped K 0 all
+codes_ended K old new all c same is h one =
+    let e : 0 + length new ≡ length old = (let k : length new ≡ length old = ap length same in omega (arith, k)) in
+    subst (CodesTyped K 0) (sym is) (codes_append K 0 new c (subst (CodesTyped K 0) (sym same) h) (subst (λ n. CodeTyped K n c) (sym e) one))
+
+pub params_typed : (ks ls : List KDecl) → ls ≡ ks → AllOf ParamTyped ks → AllOf ParamTyped ls
+params_typed ks ls same h = subst (AllOf ParamTyped) (sym same) h
 
 module _ (s : Scopes) (t : Types) where
   -- at a body's beginning

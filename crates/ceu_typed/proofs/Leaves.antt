@@ -1,32 +1,27 @@
 -- Statements without blocks of the text's own are typed.
-use Rattle.std.proofs.Common.{◌≡◌, refl, sym, ap, ◌∙◌, subst, ℕ, ◌<◌, ◌^◌, length, List, [], ◌∷◌, Option, Some, None, Result, Ok, Bool, true, false, ◌⊎◌, inl, inr}
-use Rattle.std.specs.Prelude.{⊤, IsTrue, pos, not, if◌then◌else◌}
+use Rattle.std.proofs.Common.{◌≡◌, refl, sym, ap, ◌∙◌, subst, ℕ, List, Option, Some, None, Ok, true, false, ◌⊎◌, inl, inr}
+use Rattle.std.specs.Prelude.{⊤, pos, not}
 use Rattle.ceu_base.specs.declared.kinds.Ty.{Ty}
 use Rattle.ceu_base.specs.declared.kinds.Ty.TheVariants as ty
 use Rattle.ceu_base.specs.declared.kinds.Pos.{Pos}
-use Rattle.ceu_base.specs.declared.kinds.Rule.TheVariants.{T4, T5, T2}
+use Rattle.ceu_base.specs.declared.kinds.Rule.TheVariants.{T4}
 use Rattle.ceu_tree.specs.declared.source.Class.TheVariants as class
-use Rattle.ceu_tree.specs.declared.source.Decl.{Decl}
 use Rattle.ceu_tree.specs.declared.source.Ident.{Ident}
-use Rattle.ceu_tree.specs.declared.source.Call.{Call}
 use Rattle.ceu_tree.specs.declared.source.Spawn.{Spawn}
 use Rattle.ceu_tree.specs.declared.source.Exp.{Exp}
 use Rattle.ceu_tree.specs.declared.kernel.Kernel.{Kernel}
 use Rattle.ceu_tree.specs.declared.kernel.KCode.{KCode}
 use Rattle.ceu_tree.specs.declared.kernel.Loc.{Loc}
-use Rattle.ceu_tree.specs.declared.kernel.KExp.{KExp}
 use Rattle.ceu_tree.specs.declared.kernel.KStmt as kernel
 use Rattle.ceu_tree.specs.declared.kernel.KStmt.{KStmt}
 use Rattle.ceu_tree.specs.Typing.{same_ty, node_typed, node_open}
 use Rattle.ceu_tree.specs.Leaf.{code_at}
 use Rattle.ceu_tree.specs.Proper.{Aim, Where, port_ty, event_at}
-use Rattle.ceu_scopes.specs.declared.known.Known.{Known}
 use Rattle.ceu_scopes.specs.declared.known.Role.TheVariants as role
 use Rattle.ceu_scopes.specs.declared.known.Scopes.{Scopes}
 use Rattle.ceu_scopes.specs.declared.walk.Walk.{Walk}
-use Rattle.ceu_scopes.specs.Walk.{Broken, ◌>>=◌}
 use Rattle.ceu_scopes.specs.Rules.{named, used, pool_used}
-use Rattle.ceu_scopes.specs.Names.{exp_walked, exps_walked, if_exp_walked, emit_walked, call_walked, spawned, spawn_walked, if_spawn_walked}
+use Rattle.ceu_scopes.specs.Names.{exp_walked, exps_walked, if_exp_walked, emit_walked, spawned, spawn_walked}
 use Rattle.ceu_types.specs.declared.typing.Types.{Types}
 use Rattle.ceu_types.specs.declared.found.Found.{Found}
 use Rattle.ceu_types.specs.Typing.{is_none_type}
@@ -34,7 +29,7 @@ use Rattle.ceu_types.specs.Notes.{asks_own, passed, not_in_async, not_in_finaliz
 use Rattle.ceu_types.specs.Uses.{use_type}
 use Rattle.ceu_types.specs.Expressions.{given}
 use Rattle.ceu_types.specs.Around.{takes_value}
-use Rattle.ceu_types.specs.Statements.{if_given, call_found, spawn_found, emitted, emit_found, if_spawn_found, acts}
+use Rattle.ceu_types.specs.Statements.{if_given, call_found, spawn_found, emitted, emit_found, acts}
 use Rattle.ceu_expand.specs.declared.draft.Draft.{Draft}
 use Rattle.ceu_expand.specs.Draft.{begun, hidden, placed}
 use Rattle.ceu_expand.specs.Lists.{each, gathered}
@@ -45,20 +40,20 @@ use Rattle.ceu_expand.specs.Parts as parts
 use Rattle.ceu_expand.specs.Parts.{simple, zeroed, assigned, sent, started, killed}
 use Rattle.ceu_proper.proofs.Frames.{frame, frame_used, frame_exp, frame_if_exp, frame_each}
 use Rattle.ceu_exits.proofs.Fine.{Fine, fine_own, fine_passed}
-use Rattle.ceu_exits.proofs.Beside.{Level, same_type}
-use Rattle.ceu_typed.specs.Typed.{ExpGiven, MaybeGiven, ArgsGiven, LocTyped, OnTy, OnCode, MaybeTakes, event_ty, StmtTyped}
+use Rattle.ceu_exits.proofs.Beside.{same_type}
+use Rattle.ceu_typed.specs.Typed.{ExpGiven, MaybeGiven, ArgsGiven, LocTyped, OnTy, OnCode, event_ty, StmtTyped}
 use Rattle.ceu_typed.proofs.Meeting.{implied, is_none, not_none}
 use Rattle.ceu_typed.proofs.Noting as noting
 use Rattle.ceu_typed.proofs.Noting.{none_step}
-use Rattle.ceu_typed.proofs.Passing.{given_step, if_given_step, emitted_step, emit_step, call_step, spawn_step}
+use Rattle.ceu_typed.proofs.Passing.{given_step, if_given_step, emitted_step, emit_step, spawn_step}
 use Rattle.ceu_typed.proofs.Expressing.{At}
 use Rattle.ceu_typed.proofs.Giving.{given_ok}
 use Rattle.ceu_typed.proofs.Arguments.{call_given}
-use Rattle.ceu_typed.proofs.Meaning.{PortIs, EventIs, CodeIs}
-use Rattle.ceu_typed.proofs.Naming.{then_ok, Calm, Here, Ends, Now, Goes, goes_then, named_ok, used_ok, named_goes, used_goes, pool_goes}
-use Rattle.ceu_typed.proofs.Walking.{calm_same, calm_begun, exp_goes, exps_go, if_exp_goes}
+use Rattle.ceu_typed.proofs.Meaning.{PortIs, EventIs}
+use Rattle.ceu_typed.proofs.Naming.{then_ok, Here, goes_then, named_ok, used_ok, named_goes, used_goes, pool_goes}
+use Rattle.ceu_typed.proofs.Walking.{calm_same, exp_goes, exps_go, if_exp_goes}
 use Rattle.ceu_typed.proofs.Using.{emitted_here, code_here}
-use Rattle.ceu_typed.proofs.Running.{Step, Run, of_goes, step_then, calm_step, found_step, first_run, last_run, at_run, begin_step, around_step, inside_run}
+use Rattle.ceu_typed.proofs.Running.{Step, Run, of_goes, step_then, calm_step, first_run, last_run, at_run, around_step, inside_run}
 use Rattle.ceu_typed.proofs.Holding.{Holds, holds_as, holds_placed}
 
 -- ---- the parts of a draft stay

@@ -17,6 +17,7 @@ pub mod Declaring
 pub mod Wrapping
 pub mod Around
 pub mod Blocks
+pub mod Setting
 pub mod Statements
 pub mod Parameters
 pub mod Heads

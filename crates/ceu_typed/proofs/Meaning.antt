@@ -1,6 +1,6 @@
 -- What the names that are visible stand for in the whole kernel, with their types.
-use Rattle.std.proofs.Common.{◌≡◌, refl, sym, ap, ◌∙◌, subst, ℕ, suc, zero, ◌+◌, ◌<◌, ◌≤◌, length, drop, arith, List, [], ◌∷◌, ◌++◌, Option, Some, None, Result, Ok, Err, Bool, true, false}
-use Rattle.std.specs.Prelude.{⊤, IsTrue, not, if◌then◌else◌, slice_get, unwrap_or, ok_or}
+use Rattle.std.proofs.Common.{◌≡◌, ℕ, ◌+◌, ◌<◌, ◌≤◌, drop, arith, List, [], ◌∷◌, Option, Some, None, Ok, Bool, true, false}
+use Rattle.std.specs.Prelude.{⊤, IsTrue, not, if◌then◌else◌, slice_get, ok_or}
 use Rattle.ceu_base.specs.declared.kinds.Ty.{Ty}
 use Rattle.ceu_base.specs.declared.kinds.Ty.TheVariants as ty
 use Rattle.ceu_base.specs.declared.kinds.Port.{Port}

@@ -1,10 +1,8 @@
 -- Types that meet for the rules on a text's types meet for those on a kernel's.
-use Rattle.std.proofs.Common.{◌≡◌, refl, sym, ap, ◌∙◌, subst, Option, Some, None, Bool, true, false}
+use Rattle.std.proofs.Common.{◌≡◌, refl, subst, Option, Some, None, Bool, true, false}
 use Rattle.std.specs.Prelude.{◌&&◌, ◌||◌, not, if◌then◌else◌}
 use Rattle.ceu_base.specs.declared.kinds.Ty.{Ty}
 use Rattle.ceu_base.specs.declared.kinds.Ty.TheVariants as ty
-use Rattle.ceu_base.specs.declared.kinds.Op1.{Op1}
-use Rattle.ceu_base.specs.declared.kinds.Op1.TheVariants as op1
 use Rattle.ceu_base.specs.declared.kinds.Op2.{Op2}
 use Rattle.ceu_base.specs.declared.kinds.Op2.TheVariants as op2
 use Rattle.ceu_base.specs.Values.{is_numeric, is_bool, is_shift}
@@ -289,4 +287,3 @@ pub open_int : (op : Op2) → check (if is_arithmetic2 op then result2 op ty.S32
 unfolding result2 common holds holds_range types.is_amount
 open_int op2.Or = refl
 open_int _ = refl
-

@@ -1,5 +1,5 @@
 -- The walk through a program's types beside the draft of its kernel: both go past the same expressions, so that each has its type.
-use Rattle.std.proofs.Common.{◌≡◌, refl, sym, ap, ◌∙◌, subst, ℕ, ◌+◌, length, arith, List, [], ◌∷◌, ◌++◌, Option, Some, None, Bool, true, false}
+use Rattle.std.proofs.Common.{◌≡◌, refl, sym, ap, ◌∙◌, subst, ℕ, ◌+◌, length, List, [], ◌∷◌, ◌++◌, Bool, true, false}
 use Rattle.std.specs.Prelude.{if◌then◌else◌, slice_get, unwrap_or}
 use Rattle.ceu_base.specs.declared.kinds.Ty.{Ty}
 use Rattle.ceu_base.specs.declared.kinds.Ty.TheVariants as ty
@@ -11,7 +11,7 @@ use Rattle.ceu_tree.specs.declared.kernel.KStmt.{KStmt}
 use Rattle.ceu_scopes.specs.declared.known.Scopes.{Scopes}
 use Rattle.ceu_types.specs.declared.typing.Types.{Types}
 use Rattle.ceu_types.specs.declared.found.Found.{Found}
-use Rattle.ceu_types.specs.Notes.{asks, asks_own, typed, past, passed, not_in_every, not_in_async, not_in_finalizer}
+use Rattle.ceu_types.specs.Notes.{asks, asks_own, typed, passed, not_in_every, not_in_async, not_in_finalizer}
 use Rattle.ceu_types.specs.Statements.{waits, acts}
 use Rattle.ceu_expand.specs.declared.draft.Draft.{Draft}
 use Rattle.ceu_expand.specs.Draft as draft
@@ -19,7 +19,7 @@ use Rattle.ceu_expand.specs.Draft.{outside, closed, opened, around_block}
 use Rattle.ceu_expand.specs.Expressions as expressions
 use Rattle.ceu_expand.specs.Expressions.{type_at}
 use Rattle.ceu_expand.specs.Uses.{used}
-use Rattle.ceu_proper.proofs.Inside.{append_assoc, append_none}
+use Rattle.ceu_proper.proofs.Inside.{append_assoc}
 use Rattle.ceu_visible.proofs.Stepping.{get_next, length_more}
 use Rattle.ceu_exits.proofs.Beside as exits
 
@@ -32,6 +32,9 @@ prefix_less xs ys zs h = (ys ++ h.0, h.1 ∙ append_assoc xs ys h.0)
 
 pub prefix_as : {A : Type 0} (xs ys zs : List A) → ys ≡ xs → Prefix ys zs → Prefix xs zs
 prefix_as xs ys zs e h = (h.0, h.1 ∙ ap (λ x. x ++ h.0) e)
+
+pub level_as : (s : Scopes) (f : Found) (d e : Draft) → e.uses ≡ d.uses → exits.Level s f d → exits.Level s f e
+level_as s f d e same h = subst (λ n. exits.Alike (length s.uses) f.names n) (sym same) h
 
 module _ (s : Scopes) (t : Types) where
   pub record Step (f : Found) (d : Draft) (g : Found) (e : Draft) : Type 0 where

@@ -7,7 +7,7 @@ use Rattle.ceu_base.specs.declared.kinds.Op1.{Op1}
 use Rattle.ceu_base.specs.declared.kinds.Op1.TheVariants as op1
 use Rattle.ceu_base.specs.declared.kinds.Op2.{Op2}
 use Rattle.ceu_base.specs.declared.kinds.Op2.TheVariants as op2
-use Rattle.ceu_base.specs.Values.{is_numeric, is_bool, is_shift, takes1}
+use Rattle.ceu_base.specs.Values.{is_numeric, is_shift}
 use Rattle.ceu_types.specs.declared.operands.Operand.{Operand}
 use Rattle.ceu_types.specs.Typing as types
 use Rattle.ceu_types.specs.Typing.{open_type, wanted_or_int, result1, result2, is_arithmetic1, is_arithmetic2}

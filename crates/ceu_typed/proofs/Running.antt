@@ -1,5 +1,5 @@
 -- Steps of the walks through names and types and of the draft together, and what is known where one begins.
-use Rattle.std.proofs.Common.{◌≡◌, refl, sym, ap, ◌∙◌, subst, ℕ, ◌≤◌, length, arith, List, Option}
+use Rattle.std.proofs.Common.{◌≡◌, refl, ◌∙◌, ℕ, ◌≤◌, length, arith, List, Option}
 use Rattle.ceu_base.specs.declared.kinds.Pos.{Pos}
 use Rattle.ceu_tree.specs.declared.kernel.Kernel.{Kernel}
 use Rattle.ceu_tree.specs.declared.kernel.KStmt.{KStmt}
@@ -10,7 +10,7 @@ use Rattle.ceu_scopes.specs.Shown.{rest_of}
 use Rattle.ceu_types.specs.declared.typing.Types.{Types}
 use Rattle.ceu_types.specs.declared.found.Found.{Found}
 use Rattle.ceu_expand.specs.declared.draft.Draft.{Draft}
-use Rattle.ceu_expand.specs.Draft.{begun, placed, outside, opened, closed, around_block}
+use Rattle.ceu_expand.specs.Draft.{begun, placed, opened, closed, around_block}
 use Rattle.ceu_exits.proofs.Fine.{Fine}
 use Rattle.ceu_exits.proofs.Beside.{Level}
 use Rattle.ceu_exits.proofs.Beside as exits

@@ -1,6 +1,6 @@
 -- Each statement of a text that breaks no rule on names and types is typed in the kernel.
-use Rattle.std.proofs.Common.{◌≡◌, refl, sym, ap, ◌∙◌, subst, ℕ, ◌+◌, ◌<◌, ◌≤◌, length, arith, List, [], ◌∷◌, ◌++◌, Option, Some, None, Result, Ok, Bool, true, false}
-use Rattle.std.specs.Prelude.{⊤, IsTrue, not}
+use Rattle.std.proofs.Common.{◌≡◌, refl, ◌∙◌, subst, ℕ, List, [], ◌∷◌, Option, Some, None, Ok, false}
+use Rattle.std.specs.Prelude.{⊤}
 use Rattle.ceu_base.specs.declared.kinds.Ty.{Ty}
 use Rattle.ceu_base.specs.declared.kinds.Ty.TheVariants as ty
 use Rattle.ceu_base.specs.declared.kinds.Pos.{Pos}
@@ -22,26 +22,23 @@ use Rattle.ceu_tree.specs.declared.kernel.KKind.TheVariants as kind
 use Rattle.ceu_tree.specs.declared.kernel.KLoop.TheVariants as turns
 use Rattle.ceu_tree.specs.declared.kernel.ParKind.TheVariants as par
 use Rattle.ceu_tree.specs.declared.kernel.KStmt as kernel
-use Rattle.ceu_tree.specs.Typing.{same_ty}
-use Rattle.ceu_tree.specs.Proper.{Aim, LoopAim, Where, InTrail, InsideAsync, InFinalizer}
-use Rattle.ceu_scopes.specs.declared.known.Role.TheVariants as role
+use Rattle.ceu_tree.specs.Proper.{LoopAim, InFinalizer}
 use Rattle.ceu_scopes.specs.declared.known.Scopes.{Scopes}
 use Rattle.ceu_scopes.specs.declared.scope.Border.{Border}
 use Rattle.ceu_scopes.specs.declared.scope.Border.TheVariants.{Plain, Async}
 use Rattle.ceu_scopes.specs.declared.walk.Walk.{Walk}
-use Rattle.ceu_scopes.specs.Walk as walk
-use Rattle.ceu_scopes.specs.Walk.{Broken, ◌>>=◌, opened, closed, shown, fresh}
-use Rattle.ceu_scopes.specs.Rules.{named, declared}
-use Rattle.ceu_scopes.specs.Names.{exp_walked, ident_declared, port_declared, value_broken, labelled, unlabelled, every_walked, target_assigned, target_walked, range_opened, name_listed, list_walked, stmt_walked, source_walked, value_walked, do_walked, block_walked, arm_walked, last_walked, range_walked, items_walked, arms_walked, blocks_walked, nodes_walked}
+use Rattle.ceu_scopes.specs.Walk.{◌>>=◌, opened, closed, shown, fresh}
+use Rattle.ceu_scopes.specs.Rules.{declared}
+use Rattle.ceu_scopes.specs.Names.{exp_walked, ident_declared, port_declared, value_broken, labelled, unlabelled, every_walked, target_assigned, target_walked, range_opened, list_walked, stmt_walked, source_walked, value_walked, do_walked, block_walked, arm_walked, last_walked, range_walked, items_walked, arms_walked, blocks_walked, nodes_walked}
 use Rattle.ceu_types.specs.declared.typing.Types.{Types}
 use Rattle.ceu_types.specs.declared.found.Found.{Found}
 use Rattle.ceu_types.specs.declared.around.Around as types_around
-use Rattle.ceu_types.specs.Notes.{past, passed, not_in_finalizer, begun, ended}
+use Rattle.ceu_types.specs.Notes.{passed, not_in_finalizer, begun, ended}
 use Rattle.ceu_types.specs.Uses.{use_type}
 use Rattle.ceu_types.specs.Expressions.{condition, given}
 use Rattle.ceu_types.specs.Around as types
 use Rattle.ceu_types.specs.Around.{async_around, loop_around, do_around}
-use Rattle.ceu_types.specs.Statements.{target_found, target_type, taken, waits, acts, await_found, await_type, name_typed, uses_passed, every_takes, every_begun, every_ended, finalizer_begun, finalizer_ended, async_begun, async_ended, stmt_found, source_found, value_found, do_found, block_found, last_found, range_found, items_found, arms_found, blocks_found, nodes_found}
+use Rattle.ceu_types.specs.Statements.{target_found, waits, acts, name_typed, uses_passed, every_takes, every_begun, every_ended, finalizer_begun, finalizer_ended, async_begun, stmt_found, source_found, value_found, do_found, block_found, last_found, range_found, items_found, arms_found, blocks_found, nodes_found}
 use Rattle.ceu_expand.specs.declared.around.Around as draft_around
 use Rattle.ceu_expand.specs.declared.draft.Draft.{Draft}
 use Rattle.ceu_expand.specs.Draft as draft
@@ -49,224 +46,66 @@ use Rattle.ceu_expand.specs.Draft.{in_loop, in_do, hidden, placed, block_of, aro
 use Rattle.ceu_expand.specs.Lists.{each}
 use Rattle.ceu_expand.specs.Uses as uses
 use Rattle.ceu_expand.specs.Uses.{variable, if_variable, if_used}
-use Rattle.ceu_expand.specs.Expressions.{exp_passed, exp_written}
-use Rattle.ceu_expand.specs.Parts.{simple, nothing_in, awaited, target_awaited, name_passed}
+use Rattle.ceu_expand.specs.Expressions.{exp_passed}
+use Rattle.ceu_expand.specs.Parts.{nothing_in, target_awaited, name_passed}
 use Rattle.ceu_expand.specs.Expansion.{row_blocks, par_hidden, par_slot, turns_written, turns_passed, range_hidden, range_written, range_passed, declared_in, stmt_written, source_written, value_written, do_written, ranged, every_written, every_passed, block_written, block_passed, last_written, last_passed, nodes_written, items_written, arms_written, arms_passed, blocks_written, blocks_passed}
 use Rattle.ceu_proper.specs.Shaped.{AllOf}
 use Rattle.ceu_proper.proofs.Codes.{NoCode, NoCodeInSource, NoCodeInValue, NoCodeInDo, NoCodeInBlock, NoCodeInLast, NoCodeInRange, NoCodeInItems, NoCodeInArms, NoCodeInBlocks, NoCodeInNodes}
-use Rattle.ceu_proper.proofs.Frames.{frame_used, frame_if_used, frame_labelled, frame_unlabelled, frame_exp, frame_each}
-use Rattle.ceu_visible.proofs.Stepping.{length_more}
+use Rattle.ceu_proper.proofs.Frames.{frame_labelled, frame_unlabelled, frame_exp}
 use Rattle.ceu_exits.specs.Exits.{aim_of}
-use Rattle.ceu_exits.proofs.Fine.{Fine, fine_as, fine_passed}
-use Rattle.ceu_exits.proofs.Beside as exits
-use Rattle.ceu_exits.proofs.Beside.{same_type}
-use Rattle.ceu_exits.proofs.Held.{around_parts, value_of, Rel, rel_step, rel_loop, rel_do, rel_async, rel_finalizer}
-use Rattle.ceu_typed.specs.Times.{Timed, TimedSource, TimedValue, TimedDo, TimedBlock, TimedLast, TimedRange, TimedItems, TimedArms, TimedBlocks, TimedNodes, AwaitTimed, TargetTimed}
-use Rattle.ceu_typed.specs.Typed.{LocTyped, MaybeTyped, MaybeTakes, StmtTyped, BlockTyped, ArmTyped}
+use Rattle.ceu_exits.proofs.Held.{around_parts, value_of, rel_step, rel_loop, rel_do, rel_finalizer}
+use Rattle.ceu_typed.specs.Times.{Timed, TimedSource, TimedValue, TimedDo, TimedBlock, TimedLast, TimedRange, TimedItems, TimedArms, TimedBlocks, TimedNodes, TargetTimed}
+use Rattle.ceu_typed.specs.Typed.{LocTyped, MaybeTyped, StmtTyped, BlockTyped, ArmTyped}
 use Rattle.ceu_typed.proofs.Noting as noting
 use Rattle.ceu_typed.proofs.Noting.{none_step, acts_step, waits_step, finalizer_step, hidden_step, declared_step, used_step}
-use Rattle.ceu_typed.proofs.Passing.{given_step, condition_step, taken_step, typed_name_step, names_step, every_step, target_step}
+use Rattle.ceu_typed.proofs.Passing.{given_step, condition_step}
 use Rattle.ceu_typed.proofs.Giving.{given_ok, condition_ok}
-use Rattle.ceu_typed.proofs.Meaning.{HasType}
-use Rattle.ceu_typed.proofs.Naming.{then_ok, ok_is, Ends, Now, Goes, goes_then, named_ok, used_goes, named_goes, alias_goes, declared_ok, declared_goes, shown_by, stands_there}
-use Rattle.ceu_typed.proofs.Walking.{calm_same, calm_hidden, calm_opened, still, exp_goes, target_goes, list_goes}
-use Rattle.ceu_typed.proofs.Using.{written_here}
-use Rattle.ceu_typed.proofs.Running.{Step, Run, of_goes, step_then, found_step, calm_step, first_run, last_run, at_run, begin_step, block_step, block_run}
-use Rattle.ceu_typed.proofs.Holding.{Holds, holds_as, holds_declared, holds_opened, holds_block, if_typed, par_typed}
-use Rattle.ceu_typed.proofs.Leaves.{PartIf, Part, same_part, simple_part, zeroed_part, assigned_part, emitted_part, killed_part, spawned_part, parts_of, begun_parts, hidden_parts}
+use Rattle.ceu_typed.proofs.Naming.{then_ok, ok_is, alias_goes}
+use Rattle.ceu_typed.proofs.Walking.{calm_same, calm_hidden, calm_opened, exp_goes}
+use Rattle.ceu_typed.proofs.Running.{of_goes, step_then, found_step, calm_step, first_run, last_run, at_run, begin_step, block_step, block_run}
+use Rattle.ceu_typed.proofs.Holding.{holds_opened, holds_block, if_typed, par_typed}
+use Rattle.ceu_typed.proofs.Leaves.{simple_part, zeroed_part, assigned_part, emitted_part, killed_part, spawned_part, parts_of, begun_parts, hidden_parts}
 use Rattle.ceu_typed.proofs.Awaiting.{target_part, await_part, empty_block, empty_step}
-use Rattle.ceu_typed.proofs.Declaring.{declared_takes, means_there, event_goes, input_goes, output_goes, each_goes, loop_goes, alias_part, pool_part}
-use Rattle.ceu_typed.proofs.Wrapping.{finalizer_names, finalizer_labels, finalizer_level, fine_closed, fine_opened, closed_same, fine_left, left_names, left_labels, entered_async, fine_entered, finalizer_begun_types, finalizer_ended_types, async_ended_types, wrap_step, wrap_run, closed_step, closed_run}
+use Rattle.ceu_typed.proofs.Declaring.{event_goes, input_goes, output_goes, each_goes, loop_goes, alias_part, pool_part}
+use Rattle.ceu_typed.proofs.Wrapping.{finalizer_names, finalizer_labels, fine_closed, fine_opened, closed_same, entered_async, finalizer_begun_types, finalizer_ended_types, wrap_step, wrap_run, closed_step, closed_run}
 use Rattle.ceu_typed.proofs.Around.{MainIf, Main, Inner, of_part, main_then, found_then, placed_main, if_main, jump_main, escape_main, node_main}
-use Rattle.ceu_typed.proofs.Blocks.{loop_code, do_code, each_parts, event_parts, input_parts, output_parts, turns_typed, turns_parts, range_parts, taken_names, taken_same, passed_names, taken_takes, name_has_type, each_notes, event_notes, input_notes, output_notes, every_notes, turns_step, three_hidden, do_step, do_run}
-
--- what a variable or an alias needs that is set so
-abbrev Wants : Source → Ty → Loc → Type 0
-Wants (source.Start x) u into = ⊤
-Wants _ u into = (u ≡ into.ty) × LocTyped into
-
-abbrev WantsValue : Held-Item-value → Ty → Loc → Type 0
-WantsValue Item-value-None' u into = LocTyped into
-WantsValue (Item-value-Some' v) u into = Wants v u into
-
-wants_value : (v : Held-Item-value) (u : Ty) (into : Loc) → u ≡ into.ty → LocTyped into → WantsValue v u into
-wants_value Item-value-None' u into same h = h
-wants_value (Item-value-Some' (source.Value e)) u into same h = (same, h)
-wants_value (Item-value-Some' (source.Wait e)) u into same h = (same, h)
-wants_value (Item-value-Some' (source.Start e)) u into same h = tt
-wants_value (Item-value-Some' (source.Done e)) u into same h = (same, h)
+use Rattle.ceu_typed.proofs.Blocks.{loop_code, do_code, each_parts, event_parts, input_parts, output_parts, turns_typed, turns_parts, range_parts, each_notes, event_notes, input_notes, output_notes, every_notes, turns_step, three_hidden, do_step, do_run}
+use Rattle.ceu_typed.proofs.Setting.{Wants, WantsValue, moved_main, assign_main, alias_main, wait_main, names_main, async_main, item_main, every_part, cleared_step}
 
 module _ (s : Scopes) (t : Types) (numbers : List ℕ) (K : Kernel) (code : Option ℕ) where
-  moved_main : (a : types_around.Around) (b : draft_around.Around) (w v : Walk) (f g : Found) (d e : Draft) (x : Result Walk Broken) → x ≡ Ok w → x ≡ Ok v → Main s t numbers K code a b w f d w g e → Main s t numbers K code a b w f d v g e
-  moved_main a b w v f g d e x i k m = subst (λ v. Main s t numbers K code a b w f d v g e) (ok_is w v x i k) m
-
-  -- ---- a variable that is set
-
-  assign_main : (a : types_around.Around) (b : draft_around.Around) (x : Ident) (w u v : Walk) (f g : Found) (d e : Draft) → named role.Written x w ≡ Ok u →
-      MainIf s t numbers K code ((use_type s f.names ≡ (variable s x d).ty) × LocTyped (variable s x d)) a b u (passed s f) (uses.used d) v g e → Main s t numbers K code a b w f d v g e
-  unfolding variable
-  assign_main a b x w u v f g d e h value =
-      let first = of_goes s t numbers K code (used_step s t f d) (named_goes s numbers K code role.Written x w u d h) in
-      record {
-        step = step_then s t numbers K code first value.step;
-        holds = λ q place aims rel run k.
-            let name = named_ok s numbers K code role.Written x w u h in
-            let here = (written_here s numbers K code x w u d name run.now (value.step.ends run.ends)).1 in
-            value.holds (same_type s f.names d.uses rel.level, ap (λ y. not (same_ty y ty.None)) here.typed ∙ here.so) place aims
-            (rel_step s place aims a b f (passed s f) d (uses.used d) first.notes.under rel) (last_run s t numbers K code place first value.step run) (holds_as K code aims d (uses.used d) (parts_of d (uses.used d) (frame_used d)) k);
-      }
-
-  alias_main : (a : types_around.Around) (b : draft_around.Around) (w u v : Walk) (f g : Found) (d e : Draft) → Goes s numbers K code w d u (uses.used d) → Main s t numbers K code a b u (passed s f) (uses.used d) v g e → Main s t numbers K code a b w f d v g e
-  alias_main a b w u v f g d e goes value =
-      main_then s t numbers K code a b (of_part s t numbers K code a b (same_part s t numbers K code ⊤ w u f (passed s f) d (uses.used d) (of_goes s t numbers K code (used_step s t f d) goes) (parts_of d (uses.used d) (frame_used d)))) value
-
-  -- an await whose value a variable takes
-  wait_main : (a : types_around.Around) (b : draft_around.Around) (p : Pos) (into : Loc) (u : Ty) (x : _) → AwaitTimed x → (w v : Walk) (f : Found) (d : Draft) → source_walked (source.Wait x) w ≡ Ok v →
-      MainIf s t numbers K code ((u ≡ into.ty) × LocTyped into) a b w f d v (await_found s x (taken u (await_type s x f.names) (waits f))) (awaited s t p (Some into) x d)
-  unfolding source_walked
-  wait_main a b p into u x timed w v f d h =
-      let value = await_type s x f.names in
-      let f1 = taken u value (waits f) in
-      let first = found_step s t numbers K code w f f1 d (noting.step_then s t (waits_step s t f d) (taken_step s t u value (waits f) d)) in
-      let part = await_part s t numbers K code p (Some into) x timed w v f1 d h in
-      record {
-        step = step_then s t numbers K code first part.step;
-        holds = λ q place aims rel run k.
-            let takes = taken_takes place u value (waits f) into (part.step.notes.under.back place run.fine) q.0 in
-            part.holds (subst (λ n. MaybeTakes (await_type s x n) (Some into)) (sym (taken_names s u value f)) takes) place aims (last_run s t numbers K code place first part.step run) k;
-      }
-
-  -- ---- names that take no slots
-
-  names_main : (a : types_around.Around) (b : draft_around.Around) (w v : Walk) (f : Found) (d e : Draft) → noting.Step s t (acts f) d (acts f) e → e.parts ≡ d.parts → Goes s numbers K code w d v e → Main s t numbers K code a b w f d v (acts f) e
-  names_main a b w v f d e notes same goes =
-      of_part s t numbers K code a b (same_part s t numbers K code ⊤ w v f (acts f) d e (of_goes s t numbers K code (noting.step_then s t (acts_step s t f d) notes) goes) same)
-
-  names_parts : (xs : List Ident) (d : Draft) → (each name_passed xs d).parts ≡ d.parts
-  names_parts xs d = parts_of d (each name_passed xs d) (frame_each name_passed (λ x e. frame_used e) xs d)
-
-  -- ---- asyncs
-
-  async_main : (a : types_around.Around) (b : draft_around.Around) (p : Pos) (xs : List Ident) (made : _) (w v : Walk) (q : List ℕ × Walk) (f g : Found) (d e : Draft) → walk.each name_listed xs ([], w) ≡ Ok q →
-      Inner s t numbers K code async_around b q.1 (uses_passed s xs (entered_async s f)) (each name_passed xs (draft.begun d)) v g e (λ aims. BlockTyped K code aims made) → Main s t numbers K code a b w f d v (async_ended f.labels g) (placed d.node p (kernel.Async made) e)
-  unfolding StmtTyped
-  async_main a b p xs made w v q f g d e h inner =
-      let d' = draft.begun d in
-      let f' = entered_async s f in
-      let f'' = uses_passed s xs f' in
-      let inside = each name_passed xs d' in
-      let names = of_goes s t numbers K code (names_step s t xs f' d') (list_goes s numbers K code xs ([], w) q d' h) in
-      let whole = step_then s t numbers K code names inner.step in
-      let step =
-      wrap_step s t numbers K code w v f f' g (async_ended f.labels g) d' e refl (left_names s f.labels g) (left_labels s f.labels g) refl (async_ended_types s t f.labels g) whole
-      (λ place k. let c = fine_left s place f.labels g k in fine_entered s place f c.0 (whole.notes.under.back InsideAsync c.1)) (λ place k. (InsideAsync, (fine_left s place f.labels g k).1)) in
-      placed_main s t numbers K code a b ⊤ p (kernel.Async made) w v f (async_ended f.labels g) d e step (inner.same ∙ names_parts xs d' ∙ begun_parts d)
-      (λ q place aims rel run.
-      let c = fine_left s place f.labels g run.fine in
-      let run' = wrap_run s t numbers K code place InsideAsync w v f f' g (async_ended f.labels g) d' e refl refl (async_ended_types s t f.labels g) c.1 run in
-      let after = last_run s t numbers K code InsideAsync names inner.step run' in
-      inner.typed InsideAsync [] (rel_async s b f'' inside names.notes.under.labels after.level) after)
-
-  -- ---- a variable that is declared
-
-  item_main : (a : types_around.Around) (b : draft_around.Around) (u : Ty) (x : Ident) (y : Held-Item-value) (w w1 w2 v : Walk) (f g : Found) (d e : Draft) → declared class.Var u (value_broken y) x w ≡ Ok w1 → shown x (fresh class.Var 0 w) w2 ≡ Ok v →
-      MainIf s t numbers K code (WantsValue y u (own d.parts.slot u)) a b w1 (name_typed u x f) (draft.declared (kind.Var u) x d) w2 g e → Main s t numbers K code a b w f d v g e
-  item_main a b u x y w w1 w2 v f g d e h i value =
-      let into = own d.parts.slot u in
-      let f' = name_typed u x f in
-      let first = draft.declared (kind.Var u) x d in
-      let takes = declared_takes s numbers K code (kind.Var u) x d in
-      let goes = declared_goes s numbers K code class.Var u (value_broken y) x d.parts.slot w w1 d first refl takes h in
-      let one = of_goes s t numbers K code (noting.step_then s t (typed_name_step s t u x f d) (declared_step s t (kind.Var u) x f' d)) goes in
-      let two = value.step in
-      let show = shown_by s numbers K code x (fresh class.Var 0 w) w2 v e i in
-      let has_type : (place : Where) → Fine place g → not (same_ty u ty.None) ≡ true = λ place fine. name_has_type place u x f (two.notes.under.back place fine) in
-      let more : length w1.decls ≡ length w.decls + 1 = ap (λ (w : Walk). length w.decls) (declared_ok s numbers K code class.Var u (value_broken y) x w w1 h) ∙ length_more w.decls _ in
-      let up1 = one.up in
-      let up2 = two.up in
-      let same : length v.decls ≡ length w2.decls = ap length show.decls in
-      record {
-        step = record {
-          notes = noting.step_then s t one.notes two.notes;
-          ends = λ k. one.ends (two.ends (show.ends k));
-          now = λ place fine k now.
-              let below = show.ends k in
-              let inner = two.ends below in
-              let later = two.now place fine below (one.now place (two.notes.under.back place fine) inner now) in
-              let count = later.decls in
-              let there = stands_there s numbers K code class.Var u (value_broken y) x d.parts.slot w w1 d first h takes.takes inner.decls inner.given now HasType (λ z p q. ap (λ r. not (same_ty r ty.None)) q ∙ has_type place fine) in
-              show.now (means_there s numbers K code class.Var 0 (length e.numbers) w (omega (arith, more, up2, count)) there) later;
-          rest = show.rest ∙ two.rest ∙ one.rest;
-          up = omega (arith, up1, up2, same);
-        };
-        holds = λ q place aims rel run k.
-            let typed = has_type place run.fine in
-            let run1 : Run s t numbers K code place w f d w2 g e = record { level = run.level; count = run.count; now = run.now; fine = run.fine; more = run.more; ends = show.ends run.ends } in
-            value.holds (wants_value y u into refl typed) place aims (rel_step s place aims a b f f' d first one.notes.under rel) (last_run s t numbers K code place one two run1) (holds_declared K code aims (kind.Var u) x d typed k);
-      }
-
-  -- ---- the await of an `every`
-
-  every_part : (p : Pos) (x : Option Ident) (target : Target) → TargetTimed target → (w v : Walk) (f : Found) (d : Draft) → every_walked x target w ≡ Ok v →
-      Part s t numbers K code w f d v (target_found s target (every_takes s x target f)) (target_awaited s t p (if_variable s x d) target (if_used x d))
-  unfolding variable
-  every_part p None target timed w v f d h = target_part s t numbers K code p None target timed w v f d h
-  every_part p (Some x) target timed w v f d h =
-      let u = use_type s f.names in
-      let value = target_type s target (past s f.names) in
-      let f1 = taken u value f in
-      let f2 = passed s f1 in
-      let d2 = uses.used d in
-      let into = variable s x d in
-      let m = then_ok (named role.Written x w) (target_walked target) v h in
-      let first = of_goes s t numbers K code (noting.step_then s t (taken_step s t u value f d) (used_step s t f1 d)) (named_goes s numbers K code role.Written x w m.0 d m.1) in
-      let part = target_part s t numbers K code p (Some into) target timed m.0 v f2 d2 m.2 in
-      let names : f2.names ≡ past s f.names = passed_names s f1 ∙ ap (past s) (taken_same s u value f) in
-      record {
-        step = step_then s t numbers K code first part.step;
-        holds = λ q place aims run k.
-            let takes = taken_takes place u value f into (fine_passed s place f1 (part.step.notes.under.back place run.fine)) (same_type s f.names d.uses run.level) in
-            part.holds (subst (λ n. MaybeTakes (target_type s target n) (Some into)) (sym names) takes) place aims (last_run s t numbers K code place first part.step run) (holds_as K code aims d d2 (parts_of d d2 (frame_used d)) k);
-      }
-
-  cleared_step : (w : Walk) (f : Found) (d : Draft) → Step s t numbers K code w f d w (record f { beyond_every = false }) d
-  cleared_step w f d =
-      let g : Found = record f { beyond_every = false } in
-      found_step s t numbers K code w f g d (noting.found_step s t f g d (exits.found_step s f g d refl refl (λ place h. fine_as place f g refl refl refl refl h)) refl)
-
   mutual
     unfolding NoCode Timed stmt_found stmt_written stmt_walked StmtTyped async_begun every_begun range_passed range_written
 
     pub stmt_main : (a : types_around.Around) (b : draft_around.Around) → b.code ≡ code → (p : Pos) (st : Stmt) → NoCode st → Timed st → (w v : Walk) (f : Found) (d : Draft) → stmt_walked st w ≡ Ok v →
         Main s t numbers K code a b w f d v (stmt_found s a st f) (stmt_written s t b p st d)
-    stmt_main a b c p stmt.Nothing k z w v f d h = moved_main a b w v f f d _ (Ok w) refl h (of_part s t numbers K code a b (simple_part s t numbers K code ⊤ p kernel.Nothing w f d (λ q aims. tt)))
-    stmt_main a b c p stmt.Break k z w v f d h = moved_main a b w v f _ d _ (Ok w) refl h (jump_main s t numbers K code a b p (kernel.Break b.turns) w f d (λ aims. tt))
-    stmt_main a b c p stmt.Continue k z w v f d h = moved_main a b w v f _ d _ (Ok w) refl h (jump_main s t numbers K code a b p (kernel.Continue b.turns) w f d (λ aims. tt))
+    stmt_main a b c p stmt.Nothing k z w v f d h = moved_main s t numbers K code a b w v f f d _ (Ok w) refl h (of_part s t numbers K code a b (simple_part s t numbers K code ⊤ p kernel.Nothing w f d (λ q aims. tt)))
+    stmt_main a b c p stmt.Break k z w v f d h = moved_main s t numbers K code a b w v f _ d _ (Ok w) refl h (jump_main s t numbers K code a b p (kernel.Break b.turns) w f d (λ aims. tt))
+    stmt_main a b c p stmt.Continue k z w v f d h = moved_main s t numbers K code a b w v f _ d _ (Ok w) refl h (jump_main s t numbers K code a b p (kernel.Continue b.turns) w f d (λ aims. tt))
     stmt_main a b c p (Vars' u _ items) k z w v f d h = found_then s t numbers K code a b (finalizer_step s t f d) (items_main a b c p u items k z w v (not_in_finalizer f) d h)
     stmt_main a b c p (stmt.AliasDecl name x start) k z w v f d h = of_part s t numbers K code a b (alias_part s t numbers K code p name x start w v f d h)
     stmt_main a b c p (stmt.Events u xs) k z w v f d h =
-        names_main a b w v f d (each (event_declared b.code u) xs d) (each_notes s t (event_declared b.code u) (acts f) (event_notes s t b.code u (acts f)) xs d) (each_parts (event_declared b.code u) (event_parts b.code u) xs d)
+        names_main s t numbers K code a b w v f d (each (event_declared b.code u) xs d) (each_notes s t (event_declared b.code u) (acts f) (event_notes s t b.code u (acts f)) xs d) (each_parts (event_declared b.code u) (event_parts b.code u) xs d)
         (each_goes s numbers K code (ident_declared class.Event u None) (event_declared b.code u) (event_goes s numbers K code b.code c u) xs w v d h)
     stmt_main a b c p (stmt.Inputs u xs) k z w v f d h =
-        names_main a b w v f d (each (input_declared u) xs d) (each_notes s t (input_declared u) (acts f) (input_notes s t u (acts f)) xs d) (each_parts (input_declared u) (input_parts u) xs d)
+        names_main s t numbers K code a b w v f d (each (input_declared u) xs d) (each_notes s t (input_declared u) (acts f) (input_notes s t u (acts f)) xs d) (each_parts (input_declared u) (input_parts u) xs d)
         (each_goes s numbers K code (port_declared class.Input u) (input_declared u) (input_goes s numbers K code u) xs w v d h)
     stmt_main a b c p (stmt.Outputs u xs) k z w v f d h =
-        names_main a b w v f d (each (output_declared u) xs d) (each_notes s t (output_declared u) (acts f) (output_notes s t u (acts f)) xs d) (each_parts (output_declared u) (output_parts u) xs d)
+        names_main s t numbers K code a b w v f d (each (output_declared u) xs d) (each_notes s t (output_declared u) (acts f) (output_notes s t u (acts f)) xs d) (each_parts (output_declared u) (output_parts u) xs d)
         (each_goes s numbers K code (port_declared class.Output u) (output_declared u) (output_goes s numbers K code u) xs w v d h)
     stmt_main a b c p (stmt.Pool n name x) k z w v f d h = of_part s t numbers K code a b (pool_part s t numbers K code n name x w v f d h)
     stmt_main a b c p (stmt.Code x ps result blk) k z w v f d h = absurd k
     stmt_main a b c p (stmt.Assign x (source.Start sp)) k z w v f d h =
         let m = then_ok (target_assigned (source.Start sp) x w) (source_walked (source.Start sp)) v h in
-        alias_main a b w m.0 v f _ d _ (alias_goes s numbers K code sp x w m.0 d m.1) (source_main a b c p (variable s x d) (use_type s f.names) (source.Start sp) k z m.0 v (passed s f) (uses.used d) m.2)
+        alias_main s t numbers K code a b w m.0 v f _ d _ (alias_goes s numbers K code sp x w m.0 d m.1) (source_main a b c p (variable s x d) (use_type s f.names) (source.Start sp) k z m.0 v (passed s f) (uses.used d) m.2)
     stmt_main a b c p (stmt.Assign x (source.Value e)) k z w v f d h =
         let m = then_ok (target_assigned (source.Value e) x w) (source_walked (source.Value e)) v h in
-        assign_main a b x w m.0 v f _ d _ m.1 (source_main a b c p (variable s x d) (use_type s f.names) (source.Value e) k z m.0 v (passed s f) (uses.used d) m.2)
+        assign_main s t numbers K code a b x w m.0 v f _ d _ m.1 (source_main a b c p (variable s x d) (use_type s f.names) (source.Value e) k z m.0 v (passed s f) (uses.used d) m.2)
     stmt_main a b c p (stmt.Assign x (source.Wait e)) k z w v f d h =
         let m = then_ok (target_assigned (source.Wait e) x w) (source_walked (source.Wait e)) v h in
-        assign_main a b x w m.0 v f _ d _ m.1 (source_main a b c p (variable s x d) (use_type s f.names) (source.Wait e) k z m.0 v (passed s f) (uses.used d) m.2)
+        assign_main s t numbers K code a b x w m.0 v f _ d _ m.1 (source_main a b c p (variable s x d) (use_type s f.names) (source.Wait e) k z m.0 v (passed s f) (uses.used d) m.2)
     stmt_main a b c p (stmt.Assign x (source.Done e)) k z w v f d h =
         let m = then_ok (target_assigned (source.Done e) x w) (source_walked (source.Done e)) v h in
-        assign_main a b x w m.0 v f _ d _ m.1 (source_main a b c p (variable s x d) (use_type s f.names) (source.Done e) k z m.0 v (passed s f) (uses.used d) m.2)
+        assign_main s t numbers K code a b x w m.0 v f _ d _ m.1 (source_main a b c p (variable s x d) (use_type s f.names) (source.Done e) k z m.0 v (passed s f) (uses.used d) m.2)
     stmt_main a b c p (stmt.Emit x e) k z w v f d h = of_part s t numbers K code a b (emitted_part s t numbers K code p x e w v f d h)
     stmt_main a b c p (stmt.Await x) k z w v f d h = found_then s t numbers K code a b (waits_step s t f d) (of_part s t numbers K code a b (await_part s t numbers K code p None x z w v (waits f) d h))
     stmt_main a b c p (stmt.Spawn x) k z w v f d h = of_part s t numbers K code a b (spawned_part s t numbers K code None x w v f d h)
@@ -340,9 +179,10 @@ module _ (s : Scopes) (t : Types) (numbers : List ℕ) (K : Kernel) (code : Opti
         let run' = last_run s t numbers K code place start rest run in
         let one = first_run s t numbers K code place inner.step run' in
         let rel' = rel_step s place aims a b f f'' d inside (step_then s t numbers K code (begin_step s t numbers K code w f d) (step_then s t numbers K code start waited)).notes.under rel in
-        par_typed K code aims d.node par.Or 0 (made ∷ block_written s t b blk inside ∷ [])
-        (holds_block K code aims 0 body d' (wait.holds tt place aims (block_run s t numbers K code place 0 body w m.0 f' f'' d' wait.step one) (holds_opened K code aims 0 d')),
-        (inner.typed place aims rel' (last_run s t numbers K code place waited inner.step run'), tt)))
+        par_typed K code aims d.node par.Or 0 (made ∷ block_written s t b blk inside ∷ []) (
+          holds_block K code aims 0 body d' (wait.holds tt place aims (block_run s t numbers K code place 0 body w m.0 f' f'' d' wait.step one) (holds_opened K code aims 0 d')),
+          (inner.typed place aims rel' (last_run s t numbers K code place waited inner.step run'), tt),
+        ))
     stmt_main a b c p (Par' kind _ bs) k z w v f d h =
         let f' = waits f in
         let d1 = draft.begun d in
@@ -359,12 +199,12 @@ module _ (s : Scopes) (t : Types) (numbers : List ℕ) (K : Kernel) (code : Opti
         let m = then_ok (list_walked xs ([], w)) (λ listed. block_walked blk (Async listed.0) listed.1) v h in
         let f' = uses_passed s xs (entered_async s f) in
         let inside = each name_passed xs (draft.begun d) in
-        async_main a b p xs (block_written s t b blk inside) w v m.0 f (block_found s async_around blk f') d (block_passed s t b blk inside) m.1 (block_main async_around b c blk (Async m.0.0) k z m.0.1 v f' inside m.2)
+        async_main s t numbers K code a b p xs (block_written s t b blk inside) w v m.0 f (block_found s async_around blk f') d (block_passed s t b blk inside) m.1 (block_main async_around b c blk (Async m.0.0) k z m.0.1 v f' inside m.2)
 
     source_main : (a : types_around.Around) (b : draft_around.Around) → b.code ≡ code → (p : Pos) (into : Loc) (u : Ty) (x : Source) → NoCodeInSource x → TimedSource x → (w v : Walk) (f : Found) (d : Draft) → source_walked x w ≡ Ok v →
         MainIf s t numbers K code (Wants x u into) a b w f d v (source_found s a u x f) (source_written s t b p into x d)
     source_main a b c p into u (source.Value e) k z w v f d h = of_part s t numbers K code a b (assigned_part s t numbers K code p into e u w v f d h)
-    source_main a b c p into u (source.Wait e) k z w v f d h = wait_main a b p into u e z w v f d h
+    source_main a b c p into u (source.Wait e) k z w v f d h = wait_main s t numbers K code a b p into u e z w v f d h
     source_main a b c p into u (source.Start x) k z w v f d h = of_part s t numbers K code a b (spawned_part s t numbers K code (Some into.slot) x w v f d h)
     source_main a b c p into u (source.Done blk) k z w v f d h = found_then s t numbers K code a b (acts_step s t f d) (do_main a b c p (Some into) u blk k z w v (acts f) d h)
 
@@ -428,8 +268,7 @@ module _ (s : Scopes) (t : Types) (numbers : List ℕ) (K : Kernel) (code : Opti
         let run2 = last_run s t numbers K code place two shut run1 in
         let run3 = closed_run s t numbers K code place Plain m2.0 m4.0 v f2 g d2 e m4.2 run2 in
         let run4 = last_run s t numbers K code place stand inner.step run3 in
-        let notes = noting.step_then s t hide.notes (noting.step_then s t one.notes (noting.step_then s t two.notes stand.notes)) in
-        (
+        let notes = noting.step_then s t hide.notes (noting.step_then s t one.notes (noting.step_then s t two.notes stand.notes)) in (
           (given_ok s t place low ty.S32 f three (at_run s t numbers K code place (first_run s t numbers K code place rest1 run0)), given_ok s t place high ty.S32 f1 d1 (at_run s t numbers K code place (first_run s t numbers K code place shut run1))),
           inner.typed place in_aims (rel_step s place in_aims (loop_around a) b' f f2 d' inside notes.under (rel_loop s place aims a b f d rel)) run4,
         ))
@@ -450,9 +289,9 @@ module _ (s : Scopes) (t : Types) (numbers : List ℕ) (K : Kernel) (code : Opti
         let d3 = target_awaited s t p (if_variable s x begin) target (if_used x begin) in
         let f4 : Found = record f3 { beyond_every = false } in
         let g = nodes_found s (loop_around a) list f4 in
-        let part = every_part p x target y w m.0 f1 begin m.1 in
+        let part = every_part s t numbers K code p x target y w m.0 f1 begin m.1 in
         let act = found_step s t numbers K code w f f1 begin (acts_step s t f begin) in
-        let cleared = cleared_step m.0 f3 d3 in
+        let cleared = cleared_step s t numbers K code m.0 f3 d3 in
         let nodes = nodes_main (loop_around a) b' (loop_code d.node b ∙ c) list k z (opened Plain m.0) i.0 f4 d3 i.1 in
         let shut = closed_step s t numbers K code Plain m.0 i.0 v f4 g d3 (body begin) nodes.step i.2 in
         let rest1 = step_then s t numbers K code cleared shut in
@@ -502,7 +341,7 @@ module _ (s : Scopes) (t : Types) (numbers : List ℕ) (K : Kernel) (code : Opti
     pub nodes_main : {n : _} (a : types_around.Around) (b : draft_around.Around) → b.code ≡ code → (r : Row_of-Node n) → NoCodeInNodes r → TimedNodes r → (w v : Walk) (f : Found) (d : Draft) → nodes_walked r w ≡ Ok v →
         Main s t numbers K code a b w f d v (nodes_found s a r f) (nodes_written s t b r d)
     nodes_main a b c end_of-Node k z w v f d h =
-        moved_main a b w v f f d d (Ok w) refl h (record { step = calm_step s t numbers K code w f f d d (none_step s t f d) (calm_same d); holds = λ q place aims rel run m. m })
+        moved_main s t numbers K code a b w v f f d d (Ok w) refl h (record { step = calm_step s t numbers K code w f f d d (none_step s t f d) (calm_same d); holds = λ q place aims rel run m. m })
     nodes_main a b c (more_of-Node p st rest) k z w v f d h =
         let m = then_ok (stmt_walked st w) (nodes_walked rest) v h in
         let e = stmt_written s t b p st d in
@@ -512,7 +351,7 @@ module _ (s : Scopes) (t : Types) (numbers : List ℕ) (K : Kernel) (code : Opti
     items_main : {n : _} (a : types_around.Around) (b : draft_around.Around) → b.code ≡ code → (p : Pos) (u : Ty) (r : Row_of-Item n) → NoCodeInItems r → TimedItems r → (w v : Walk) (f : Found) (d : Draft) → items_walked r u w ≡ Ok v →
         Main s t numbers K code a b w f d v (items_found s a u r f) (items_written s t b p u r d)
     items_main a b c p u end_of-Item k z w v f d h =
-        moved_main a b w v f f d d (Ok w) refl h (record { step = calm_step s t numbers K code w f f d d (none_step s t f d) (calm_same d); holds = λ q place aims rel run m. m })
+        moved_main s t numbers K code a b w v f f d d (Ok w) refl h (record { step = calm_step s t numbers K code w f f d d (none_step s t f d) (calm_same d); holds = λ q place aims rel run m. m })
     items_main a b c p u (more_of-Item x y rest) k z w v f d h =
         let name = fresh class.Var 0 w in
         let m3 = then_ok (declared class.Var u (value_broken y) x w >>= value_walked y >>= shown x name) (λ i. items_walked rest u i) v h in
@@ -522,7 +361,7 @@ module _ (s : Scopes) (t : Types) (numbers : List ℕ) (K : Kernel) (code : Opti
         let f' = name_typed u x f in
         let into = own d.parts.slot u in
         let value = value_main a b c p into u y k.0 z.0 m1.0 m2.0 f' first m1.2 in
-        main_then s t numbers K code a b (item_main a b u x y w m1.0 m2.0 m3.0 f (value_found s a u y f') d (value_written s t b p into y first) m1.1 m2.2 value)
+        main_then s t numbers K code a b (item_main s t numbers K code a b u x y w m1.0 m2.0 m3.0 f (value_found s a u y f') d (value_written s t b p into y first) m1.1 m2.2 value)
         (items_main a b c p u rest k.1 z.1 m3.0 v (value_found s a u y f') (value_written s t b p into y first) m3.2)
 
     arms_main : {n : _} (a : types_around.Around) (b : draft_around.Around) → b.code ≡ code → (r : Row_of-Arm n) → NoCodeInArms r → TimedArms r → (w v : Walk) (f : Found) (d : Draft) → arms_walked r w ≡ Ok v →

@@ -1,13 +1,11 @@
 -- What the names that a statement uses stand for, by what they are used for.
-use Rattle.std.proofs.Common.{◌≡◌, refl, sym, ap, ◌∙◌, subst, ℕ, ◌<◌, length, List, Option, Some, None, Bool, true, false, ◌⊎◌, inl, inr}
-use Rattle.std.specs.Prelude.{⊤, slice_get}
-use Rattle.ceu_base.specs.declared.kinds.Ty.{Ty}
+use Rattle.std.proofs.Common.{◌≡◌, ℕ, List, Option, Some, true, ◌⊎◌, inl, inr}
+use Rattle.std.specs.Prelude.{slice_get}
 use Rattle.ceu_tree.specs.declared.source.Class.{Class}
 use Rattle.ceu_tree.specs.declared.source.Class.TheVariants as class
 use Rattle.ceu_tree.specs.declared.source.Decl.{Decl}
 use Rattle.ceu_tree.specs.declared.source.Ident.{Ident}
 use Rattle.ceu_tree.specs.declared.kernel.Kernel.{Kernel}
-use Rattle.ceu_scopes.specs.declared.known.Known.{Known}
 use Rattle.ceu_scopes.specs.declared.known.Role.{Role}
 use Rattle.ceu_scopes.specs.declared.known.Role.TheVariants as role
 use Rattle.ceu_scopes.specs.declared.known.Scopes.{Scopes}

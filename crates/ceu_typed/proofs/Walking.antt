@@ -1,5 +1,5 @@
 -- Expressions, targets, labels and lists of names: the walk through a program's names beside the draft.
-use Rattle.std.proofs.Common.{◌≡◌, refl, sym, ap, ◌∙◌, subst, ℕ, length, List, [], ◌∷◌, ◌++◌, Option, Some, None, Result, Ok, Err}
+use Rattle.std.proofs.Common.{◌≡◌, refl, ap, subst, ℕ, List, [], ◌∷◌, Option, Some, None, Result, Ok}
 use Rattle.ceu_base.specs.declared.kinds.Pos.{Pos}
 use Rattle.ceu_tree.specs.declared.source.Ident.{Ident}
 use Rattle.ceu_tree.specs.declared.source.Label.{Label}
@@ -7,20 +7,17 @@ use Rattle.ceu_tree.specs.declared.source.Label.TheVariants as label
 use Rattle.ceu_tree.specs.declared.source.Exp.{Exp}
 use Rattle.ceu_tree.specs.declared.source.ExpNode as exp
 use Rattle.ceu_tree.specs.declared.source.ExpNode.{ExpNode, Row_of-Exp, end_of-Exp, more_of-Exp, One', Two', As'}
-use Rattle.ceu_tree.specs.declared.source.Source as source
-use Rattle.ceu_tree.specs.declared.source.Source.{Source}
 use Rattle.ceu_tree.specs.declared.source.Target.{Target}
 use Rattle.ceu_tree.specs.declared.source.Target.TheVariants as target
 use Rattle.ceu_tree.specs.declared.kernel.Kernel.{Kernel}
 use Rattle.ceu_tree.specs.declared.kernel.KStmt.{KStmt}
-use Rattle.ceu_scopes.specs.declared.known.Known.{Known}
 use Rattle.ceu_scopes.specs.declared.known.Role.TheVariants as role
 use Rattle.ceu_scopes.specs.declared.known.Scopes.{Scopes}
 use Rattle.ceu_scopes.specs.declared.walk.Walk.{Walk}
 use Rattle.ceu_scopes.specs.Shown.{added, rest_of}
 use Rattle.ceu_scopes.specs.Walk as walk
 use Rattle.ceu_scopes.specs.Walk.{Broken, ◌>>=◌}
-use Rattle.ceu_scopes.specs.Rules.{checked, named, used, label_broken}
+use Rattle.ceu_scopes.specs.Rules.{used, label_broken}
 use Rattle.ceu_scopes.specs.Names.{node_walked, operand_walked, exp_walked, exps_walked, if_exp_walked, target_walked, escape_walked, labelled, unlabelled, name_listed}
 use Rattle.ceu_expand.specs.declared.draft.Draft.{Draft}
 use Rattle.ceu_expand.specs.Draft as draft

@@ -1,14 +1,13 @@
 -- What begins and ends around a block: finalizers, asyncs, labels, statements.
-use Rattle.std.proofs.Common.{◌≡◌, refl, sym, ap, ◌∙◌, subst, ℕ, ◌≤◌, length, arith, List, [], ◌∷◌, ◌++◌, Option, Some, None, Result, Ok, Bool, true, false}
-use Rattle.std.specs.Prelude.{IsTrue, not, if◌then◌else◌}
+use Rattle.std.proofs.Common.{◌≡◌, refl, sym, ap, ◌∙◌, subst, ℕ, length, arith, List, [], ◌∷◌, ◌++◌, Option, Ok, Bool, true, false}
+use Rattle.std.specs.Prelude.{IsTrue, not}
 use Rattle.ceu_base.specs.declared.kinds.Ty.{Ty}
 use Rattle.ceu_base.specs.declared.kinds.Pos.{Pos}
-use Rattle.ceu_base.specs.declared.kinds.Rule.{Rule}
 use Rattle.ceu_base.specs.declared.kinds.Rule.TheVariants.{T6}
 use Rattle.ceu_tree.specs.declared.source.Label.{Label}
 use Rattle.ceu_tree.specs.declared.source.Label.TheVariants as label
 use Rattle.ceu_tree.specs.declared.kernel.Kernel.{Kernel}
-use Rattle.ceu_tree.specs.Proper.{Aim, Where, InTrail, InsideAsync, InFinalizer, is_trail, outside_finalizers}
+use Rattle.ceu_tree.specs.Proper.{Where, InTrail, InsideAsync, InFinalizer, is_trail}
 use Rattle.ceu_scopes.specs.declared.known.Scopes.{Scopes}
 use Rattle.ceu_scopes.specs.declared.scope.Border.{Border}
 use Rattle.ceu_scopes.specs.declared.walk.Walk.{Walk}
@@ -19,11 +18,11 @@ use Rattle.ceu_types.specs.declared.found.Found.{Found}
 use Rattle.ceu_types.specs.declared.found.LabelTarget.{LabelTarget}
 use Rattle.ceu_types.specs.Notes.{asks_own, not_in_every, not_in_async, not_in_finalizer, begun, ended_after, ended}
 use Rattle.ceu_types.specs.Around as types
-use Rattle.ceu_types.specs.Statements.{waits, acts, every_ended, finalizer_begun, finalizer_ended, async_begun, async_ended}
+use Rattle.ceu_types.specs.Statements.{waits, acts, every_ended, finalizer_begun, finalizer_ended, async_ended}
 use Rattle.ceu_expand.specs.declared.draft.Draft.{Draft}
 use Rattle.ceu_expand.specs.declared.draft.LabelNode.{LabelNode}
 use Rattle.ceu_expand.specs.Draft as draft
-use Rattle.ceu_exits.proofs.Fine.{Fine, Allows, fine_as, fine_own, fine_every, fine_acts, fine_waits, fine_ended, fine_begun}
+use Rattle.ceu_exits.proofs.Fine.{Fine, Allows, fine_as, fine_own, fine_every, fine_acts, fine_waits}
 use Rattle.ceu_exits.proofs.Beside.{Alike, Level}
 use Rattle.ceu_exits.proofs.Beside as exits
 use Rattle.ceu_exits.proofs.Beside.{own_names, own_labels}
@@ -31,7 +30,7 @@ use Rattle.ceu_exits.proofs.Held.{dropped_target, dropped_node}
 use Rattle.ceu_typed.proofs.Noting as noting
 use Rattle.ceu_typed.proofs.Noting.{Prefix, prefix_as, own_types}
 use Rattle.ceu_typed.proofs.Meaning.{Means}
-use Rattle.ceu_typed.proofs.Naming.{Ends, Now, Goes, closed_ok, opened_now, opened_ends, opened_rest}
+use Rattle.ceu_typed.proofs.Naming.{Ends, closed_ok, opened_now, opened_ends, opened_rest}
 use Rattle.ceu_typed.proofs.Running.{Step, Run}
 use Rattle.ceu_visible.proofs.Stepping.{rest_all}
 
@@ -235,6 +234,9 @@ module _ (s : Scopes) (t : Types) where
     pub closed_back : (v : Walk) (e : Draft) → Ends s numbers K (record v { scopes = rest_of v.scopes }) e → Ends s numbers K v e
     closed_back v e k = record { uses = k.uses; decls = k.decls; plain = k.plain; given = k.given; inputs = k.inputs; outputs = k.outputs; events = k.events; codes = k.codes }
 
+    pub closed_ends : (v u : Walk) (e : Draft) → walk.closed v ≡ Ok u → Ends s numbers K u e → Ends s numbers K v e
+    closed_ends v u e is h = closed_back v e (subst (λ u. Ends s numbers K u e) (closed_ok s numbers K code v u is) h)
+
     pub closed_at : (b : Border) (w v : Walk) (f g : Found) (d e : Draft) → Step s t numbers K code (walk.opened b w) f d v g e → Step s t numbers K code w f d (record v { scopes = rest_of v.scopes }) g e
     closed_at b w v f g d e h =
         let out = opened_rest s numbers K code b w in
@@ -261,5 +263,5 @@ module _ (s : Scopes) (t : Types) where
           now = opened_now s numbers K code b w d run.now;
           fine = run.fine;
           more = run.more;
-          ends = closed_back v e (subst (λ u. Ends s numbers K u e) (closed_ok s numbers K code v u is) run.ends);
+          ends = closed_ends v u e is run.ends;
         }

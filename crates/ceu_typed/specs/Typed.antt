@@ -2,7 +2,6 @@
 use Rattle.std.specs.Prelude.{⊤, ℕ, ◌+◌, nat_le, Bool, true, false, not, ◌&&◌, ◌||◌, if◌then◌else◌, IsTrue, List, [], ◌∷◌, length, Option, Some, None}
 use Rattle.ceu_base.specs.declared.kinds.Ty.{Ty}
 use Rattle.ceu_base.specs.declared.kinds.Ty.TheVariants as ty
-use Rattle.ceu_base.specs.declared.kinds.Port.{Port}
 use Rattle.ceu_tree.specs.declared.kernel.Kernel.{Kernel}
 use Rattle.ceu_tree.specs.declared.kernel.KCode.{KCode}
 use Rattle.ceu_tree.specs.declared.kernel.KEvent.{KEvent}
