@@ -1,0 +1,3 @@
+pub mod Unharmed
+pub mod Stepping
+pub mod Ticks
