@@ -1,3 +1,4 @@
 pub mod Unharmed
 pub mod Stepping
 pub mod Ticks
+pub mod Turning

@@ -1,6 +1,7 @@
 -- Steps of the machine one after the other, and that a turn has time for all of its steps.
 use Rattle.std.proofs.Common.{◌≡◌, refl, sym, ap, ◌∙◌, subst, ℕ, zero, suc, ◌+◌, ◌-◌, ◌*◌, ◌^◌, ◌≤◌, Bool, true, false, ◌⊎◌, inl, inr, ⊎_elim, arith}
 use Rattle.std.proofs.lemmas.Nat.{pow-add}
+use Rattle.std.proofs.Math.Nat.{mul-le-mul_right}
 use Rattle.std.proofs.Math.Pow.{pow_mono}
 use Rattle.ceu_code.specs.declared.image.Image.{Image}
 use Rattle.ceu_isa.specs.Turns.{State, tick, ticks, is_on, longest_turn}
@@ -43,7 +44,7 @@ powers_fit : (a b c : ℕ) → a + b ≤ c → 2 ^ a * 2 ^ b ≤ 2 ^ c
 powers_fit a b c le = subst (λ x. x ≤ 2 ^ c) (pow-add 2 a b) (pow_mono le)
 
 products_grow : (k m n : ℕ) → k ≤ m → k * n ≤ m * n
-products_grow k m n le = omega (arith, le)
+products_grow k m n le = mul-le-mul_right n le
 
 run_fits : longest_run * most_ticks ≤ longest_turn
 unfolding longest_run longest_turn

@@ -3,8 +3,14 @@
 #![tactic(auto)]
 
 ghost use Rattle.ceu_follows.specs.Kept.{StepsKeep};
+ghost use Rattle.ceu_follows.specs.Laws.{TurnsAreDone};
 
 /// A step of a reaction keeps what holds of configurations.
 pub fn steps_keep()
     ensures { StepsKeep }
+{}
+
+/// A turn comes to what that of the reference semantics comes to, with the same marks.
+pub fn turns_are_done()
+    ensures { TurnsAreDone }
 {}
