@@ -2,3 +2,4 @@ pub mod Unharmed
 pub mod Stepping
 pub mod Ticks
 pub mod Turning
+pub mod Trees
