@@ -6,3 +6,4 @@ pub mod Trees
 pub mod Memory
 pub mod Choices
 pub mod Numbers
+pub mod Beginning
