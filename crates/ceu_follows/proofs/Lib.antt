@@ -7,3 +7,5 @@ pub mod Memory
 pub mod Choices
 pub mod Numbers
 pub mod Beginning
+pub mod Headers
+pub mod Reacting

@@ -121,3 +121,21 @@ module _ (K : Kernel) (proper : is_proper K ≡ true) (single : is_single K ≡ 
     within = next_within c h z;
     unfaulted = next_unfaulted c h z;
   }
+
+  -- ---- a turn begins, or the reaction is over
+
+  choice_is : (r : Residual) (w : World) (o : Option (Focus Act)) → choose Act (runs_at 0) r ≡ o → next K (Between 0 r w) ≡ chosen_at 0 o r w
+  unfolding next
+  choice_is r w o e = ap (λ (x : Option (Focus Act)). chosen_at 0 x r w) e
+
+  pub begins_next : (r : Residual) (w : World) (f : Focus Act) → choose Act (runs_at 0) r ≡ Some f → next K (Between 0 r w) ≡ Turning 0 f (marked (mark.Resume 0) w)
+  begins_next r w f e = choice_is r w (Some f) e
+
+  pub waits_next : (r : Residual) (w : World) → choose Act (runs_at 0) r ≡ None → next K (Between 0 r w) ≡ Waiting r w
+  waits_next r w e = choice_is r w None e
+
+  pub begins_kept : (r : Residual) (w : World) (f : Focus Act) → Kept K (Between 0 r w) → choose Act (runs_at 0) r ≡ Some f → Kept K (Turning 0 f (marked (mark.Resume 0) w))
+  begins_kept r w f h e = subst (Kept K) (begins_next r w f e) (next_kept (Between 0 r w) h refl)
+
+  pub waits_kept : (r : Residual) (w : World) → Kept K (Between 0 r w) → choose Act (runs_at 0) r ≡ None → Kept K (Waiting r w)
+  waits_kept r w h e = subst (Kept K) (waits_next r w e) (next_kept (Between 0 r w) h refl)

@@ -3,7 +3,7 @@
 #![tactic(auto)]
 
 ghost use Rattle.ceu_follows.specs.Kept.{StepsKeep};
-ghost use Rattle.ceu_follows.specs.Laws.{TurnsAreDone};
+ghost use Rattle.ceu_follows.specs.Laws.{NoneBegins, ReactionsFollow, TurnsAreDone, TurnsBegin};
 
 /// A step of a reaction keeps what holds of configurations.
 pub fn steps_keep()
@@ -13,4 +13,19 @@ pub fn steps_keep()
 /// A turn comes to what that of the reference semantics comes to, with the same marks.
 pub fn turns_are_done()
     ensures { TurnsAreDone }
+{}
+
+/// A trail that can run begins its turn,
+pub fn turns_begin()
+    ensures { TurnsBegin }
+{}
+
+/// and where none can, the machine finds no gate.
+pub fn none_begins()
+    ensures { NoneBegins }
+{}
+
+/// So a reaction comes to what that of the reference semantics comes to, with the same marks.
+pub fn reactions_follow()
+    ensures { ReactionsFollow }
 {}
