@@ -9,3 +9,5 @@ pub mod Numbers
 pub mod Beginning
 pub mod Headers
 pub mod Reacting
+pub mod Sweeps
+pub mod Waits
