@@ -11,3 +11,5 @@ pub mod Headers
 pub mod Reacting
 pub mod Sweeps
 pub mod Waits
+pub mod Together
+pub mod Ready

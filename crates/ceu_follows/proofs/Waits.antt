@@ -9,8 +9,9 @@ use Rattle.ceu_isa.specs.Commands as machine
 use Rattle.ceu_isa.specs.Commands.{is_timer, least_of, first_unserved}
 use Rattle.ceu_tree.specs.declared.kernel.Kernel.{Kernel}
 use Rattle.ceu_tree.specs.Residual.{Body, Program, Act, Begin, Start, Finish, AtEnd, AtHead, Again, Residual, Over, Run, WaitInput, WaitTime, WaitEvent, WaitForever, InAsync, Block, Open, Loop, Call, Par, Instances, no_instance}
-use Rattle.ceu_tree.specs.Focus.{Focus, choose}
-use Rattle.ceu_tree.specs.Wake.{leaves, leaves_of_instances, least_time, each_leaf, new_round}
+use Rattle.ceu_tree.specs.Focus.{Focus, OfBlock, OfOpen, OfLoop, under, choose, choose_instance}
+use Rattle.ceu_tree.specs.Wake as waking
+use Rattle.ceu_tree.specs.Wake.{leaves, leaves_of_instances, least_time, each_leaf, Unserved, new_round}
 use Rattle.ceu_tree.specs.World.{World}
 use Rattle.ceu_legal.specs.Shape.{Fits, program_part}
 use Rattle.ceu_single.specs.Single.{is_single}
@@ -50,6 +51,19 @@ same_round top (WaitInput k s) h = refl
 same_round top (WaitTime d s) h = refl
 same_round top (WaitForever s) h = refl
 same_round top r h = absurd h
+
+pub no_unserved : (top : ℕ) (r : Residual) → OneLeaf top r → choose Unserved waking.unserved r ≡ None
+unfolding OneLeaf choose choose_instance
+no_unserved top (Block b fin all r rest) h =
+    let none : choose Unserved waking.unserved (Block b fin no_instance r rest) ≡ None = ap (λ (o : Option (Focus Unserved)). under (OfBlock b fin no_instance rest) o) (no_unserved top r h.2) in
+    subst (λ (i : Instances). choose Unserved waking.unserved (Block b fin i r rest) ≡ None) (sym h.1) none
+no_unserved top (Open s r) h = ap (under (OfOpen s)) (no_unserved top r h)
+no_unserved top (Loop s c r) h = ap (under (OfLoop s c)) (no_unserved top r h)
+no_unserved top (Run n a) h = refl
+no_unserved top (WaitInput k s) h = refl
+no_unserved top (WaitTime d s) h = refl
+no_unserved top (WaitForever s) h = refl
+no_unserved top r h = absurd h
 
 abbrev NoAsync : Residual → Type 0
 NoAsync (InAsync s b r) = ⊥
