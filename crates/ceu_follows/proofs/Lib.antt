@@ -13,3 +13,4 @@ pub mod Sweeps
 pub mod Waits
 pub mod Together
 pub mod Ready
+pub mod Commands
