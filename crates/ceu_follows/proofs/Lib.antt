@@ -14,3 +14,5 @@ pub mod Waits
 pub mod Together
 pub mod Ready
 pub mod Commands
+pub mod Booting
+pub mod Runs

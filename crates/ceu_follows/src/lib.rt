@@ -3,7 +3,7 @@
 #![tactic(auto)]
 
 ghost use Rattle.ceu_follows.specs.Kept.{StepsKeep};
-ghost use Rattle.ceu_follows.specs.Laws.{NoneBegins, ReactionsFollow, TurnsAreDone, TurnsBegin};
+ghost use Rattle.ceu_follows.specs.Laws.{BootFollows, CommandsFollow, ImageIsSound, NoneBegins, ReactionsFollow, RunsFollow, TurnsAreDone, TurnsBegin};
 
 /// A step of a reaction keeps what holds of configurations.
 pub fn steps_keep()
@@ -28,4 +28,24 @@ pub fn none_begins()
 /// So a reaction comes to what that of the reference semantics comes to, with the same marks.
 pub fn reactions_follow()
     ensures { ReactionsFollow }
+{}
+
+/// Boot comes to what that of the reference semantics comes to,
+pub fn boot_follows()
+    ensures { BootFollows }
+{}
+
+/// and so does each command, from configurations that agree,
+pub fn commands_follow()
+    ensures { CommandsFollow }
+{}
+
+/// and each run.
+pub fn runs_follow()
+    ensures { RunsFollow }
+{}
+
+/// So the image is sound: whatever commands come, nothing is done that isn't allowed.
+pub fn image_is_sound()
+    ensures { ImageIsSound }
 {}
