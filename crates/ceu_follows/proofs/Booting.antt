@@ -1,7 +1,7 @@
 -- Boot: what stands in the blank memory once the program's first gate can run.
-use Rattle.std.proofs.Common.{◌≡◌, ◌≢◌, refl, sym, ap, ◌∙◌, subst, ◌<◌, ◌≤◌, ◌⊎◌, inl, inr, ⊎_elim, ℕ, zero, suc, ◌+◌, ◌*◌, ◌^◌, Bool, true, false, List, [], ◌∷◌, ◌++◌, length, replicate, Option, Some, None, arith}
-use Rattle.std.specs.Prelude.{slice_index, nat_lt, if◌then◌else◌}
-use Rattle.std.proofs.lemmas.Bool.{cases_lt, lt-ltb}
+use Rattle.std.proofs.Common.{◌≡◌, refl, sym, ap, ◌∙◌, subst, ◌<◌, ◌≤◌, ℕ, zero, suc, ◌+◌, ◌*◌, ◌^◌, Bool, true, List, [], ◌++◌, replicate, arith}
+use Rattle.std.specs.Prelude.{slice_index, if◌then◌else◌}
+use Rattle.std.proofs.lemmas.Bool.{lt-ltb}
 use Rattle.std.proofs.lemmas.List.{length-replicate}
 use Rattle.ceu_asm.specs.declared.line.Line.{Line}
 use Rattle.ceu_code.specs.declared.image.Image.{Image}
@@ -11,18 +11,18 @@ use Rattle.ceu_mem.specs.Memory.{IsGate}
 use Rattle.ceu_mem.proofs.Views.{number_step, number_nothing}
 use Rattle.ceu_fetch.specs.Placed.{Placed}
 use Rattle.ceu_fetch.proofs.Lines.{parts_are_placed}
-use Rattle.ceu_isa.specs.Layout.{slots_at, end_of, gate_of, gate_put, gate_changed, free, can_run, top_of, given_of}
+use Rattle.ceu_isa.specs.Layout.{end_of, gate_of, gate_put, free}
 use Rattle.ceu_isa.specs.Reactions as machine
 use Rattle.ceu_isa.specs.Commands as commands
 use Rattle.ceu_isa.specs.Commands.{program_start, blank}
 use Rattle.ceu_isa.specs.Safety.{Fits}
 use Rattle.ceu_isa.specs.Turns.{Machine, rewritten}
 use Rattle.ceu_tree.specs.declared.kernel.Kernel.{Kernel}
-use Rattle.ceu_tree.specs.declared.kernel.KBlock.{KBlock, out-KBlock}
-use Rattle.ceu_tree.specs.Residual.{Body, Program, Act, Begin, Residual, Run}
+use Rattle.ceu_tree.specs.declared.kernel.KBlock.{out-KBlock}
+use Rattle.ceu_tree.specs.Residual.{Program, Begin, Run}
 use Rattle.ceu_tree.specs.Focus.{Here}
-use Rattle.ceu_tree.specs.World.{World, empty_world}
-use Rattle.ceu_tree.specs.Run.{Between, booted, steps}
+use Rattle.ceu_tree.specs.World.{empty_world}
+use Rattle.ceu_tree.specs.Run.{booted, steps}
 use Rattle.ceu_shape.specs.Plans.{Plan, own_label}
 use Rattle.ceu_shape.specs.Searches.{node_of_block}
 use Rattle.ceu_shape.specs.Shape.{shape_lines, block_draft, codes_draft, program_draft, first_fresh, kernel_piece}
@@ -30,10 +30,10 @@ use Rattle.ceu_legal.specs.Shape.{nothing_around, program_part}
 use Rattle.ceu_legal.proofs.RunFits.{booted_fits}
 use Rattle.ceu_values.proofs.RunValues.{booted_valued}
 use Rattle.ceu_stands.specs.Laws.{AreBytes}
-use Rattle.ceu_stands.specs.Views.{View, view, Free, Home, gate_seen}
-use Rattle.ceu_stands.specs.Leaves.{LeafStands, LeafGate}
+use Rattle.ceu_stands.specs.Views.{view}
+use Rattle.ceu_stands.specs.Leaves.{LeafGate}
 use Rattle.ceu_stands.specs.Stands.{Stands}
-use Rattle.ceu_stands.specs.Values.{ValuesStand, MemoryStands}
+use Rattle.ceu_stands.specs.Values.{ValuesStand}
 use Rattle.ceu_endings.specs.Ends.{EndsTurns}
 use Rattle.ceu_endings.proofs.CountedRuns as counters
 use Rattle.ceu_endings.proofs.Shapes.{no_codes}

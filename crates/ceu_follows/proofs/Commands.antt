@@ -1,11 +1,8 @@
 -- Each command of the machine comes to what that of the reference semantics comes to, from configurations that agree.
-use Rattle.std.proofs.Common.{◌≡◌, refl, sym, ap, ◌∙◌, subst, ◌<◌, ◌≤◌, ℕ, zero, suc, ◌+◌, ◌-◌, min, ℤ, nat_le, Bool, true, false, List, [], Option, Some, None, arith}
+use Rattle.std.proofs.Common.{◌≡◌, refl, sym, ap, ◌∙◌, subst, ℕ, zero, suc, ◌+◌, ◌-◌, min, ℤ, nat_le, Bool, true, false, Option, Some, None, arith}
 use Rattle.std.specs.Prelude.{slice_get}
-use Rattle.ceu_base.specs.declared.kinds.Port.{Port}
 use Rattle.ceu_code.specs.declared.image.Image.{Image}
 use Rattle.ceu_code.specs.Instructions.{cell}
-use Rattle.ceu_mem.specs.Bytes.{number_at}
-use Rattle.ceu_isa.specs.Layout.{state_of, top_of, each_gate, is_unserved}
 use Rattle.ceu_isa.specs.Order.{Choice, Nowhere, Unclear, Chosen}
 use Rattle.ceu_isa.specs.Reactions as machine
 use Rattle.ceu_isa.specs.Commands as commands
@@ -15,7 +12,7 @@ use Rattle.ceu_isa.specs.Turns.{Machine}
 use Rattle.ceu_tree.specs.declared.command.Command.{Command}
 use Rattle.ceu_tree.specs.declared.command.Command.TheVariants.{Input, Advance, Idle}
 use Rattle.ceu_tree.specs.declared.kernel.Kernel.{Kernel}
-use Rattle.ceu_tree.specs.Residual.{Body, Residual}
+use Rattle.ceu_tree.specs.Residual.{Residual}
 use Rattle.ceu_tree.specs.Focus.{Focus, choose}
 use Rattle.ceu_tree.specs.World.{World}
 use Rattle.ceu_tree.specs.Wake.{each_leaf, leaves, by_input, later, by_time, least_time, Unserved, unserved, new_round}
@@ -23,7 +20,6 @@ use Rattle.ceu_tree.specs.Run as run
 use Rattle.ceu_tree.specs.Run.{Config, Turning, Between, Waiting, Ended, Faulted, world_of, steps, done, advance, input, served}
 use Rattle.ceu_shape.specs.Plans.{Plan}
 use Rattle.ceu_shape.specs.Shape.{shape}
-use Rattle.ceu_stands.specs.Views.{Home}
 use Rattle.ceu_stands.specs.Values.{MemoryStands}
 use Rattle.ceu_stands.proofs.Occurrences.{input_stands, time_stands, due_stands, round_stands}
 use Rattle.ceu_endings.specs.Ends.{EndsTurns}
@@ -32,9 +28,8 @@ use Rattle.ceu_endings.proofs.Shapes.{one_leaf, no_codes}
 use Rattle.ceu_trail.specs.Compiled.{Compiled}
 use Rattle.ceu_trail.specs.Laws.{StepsAreDone}
 use Rattle.ceu_trail.specs.Tables.{tables}
-use Rattle.ceu_follows.specs.Kept.{Kept}
 use Rattle.ceu_follows.specs.Reactions.{StandsWaiting, Agrees, Follows}
-use Rattle.ceu_follows.proofs.Sweeps.{Unmoved, each_unmoved, unmoved_then}
+use Rattle.ceu_follows.proofs.Sweeps.{Unmoved, each_unmoved}
 use Rattle.ceu_follows.proofs.Waits.{least_same, none_unserved, no_unserved, same_round}
 use Rattle.ceu_follows.proofs.Together.{stays, as_well, follows_then}
 use Rattle.ceu_follows.proofs.Ready.{advance_none, advance_due, advance_waits, input_kept, due_kept, later_kept, reacts_follow}
@@ -79,7 +74,6 @@ module _ (image : Image) (P : Plan) (width : ℕ → ℕ) (K : Kernel) (compiled
   inputs_are : image.inputs ≡ K.inputs
   unfolding shape
   inputs_are = ap (λ (i : Image). i.inputs) compiled.shaped.3
-
 
   -- ---- an input
 

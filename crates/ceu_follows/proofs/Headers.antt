@@ -1,11 +1,10 @@
 -- A number that is written in the header, before the gates, leaves what stands in gates and slots as it was.
-use Rattle.std.proofs.Common.{◌≡◌, refl, sym, ap, ◌∙◌, subst, ◌<◌, ◌≤◌, ◌⊎◌, inl, inr, ℕ, ◌+◌, Bool, true, false, List, arith}
+use Rattle.std.proofs.Common.{◌≡◌, sym, ap, ◌∙◌, subst, ◌≤◌, inr, ℕ, ◌+◌, List}
 use Rattle.std.specs.Prelude.{nat_lt, if◌then◌else◌}
 use Rattle.ceu_code.specs.declared.image.Image.{Image}
 use Rattle.ceu_mem.specs.declared.gate.Gate.{Gate}
-use Rattle.ceu_mem.specs.Bytes.{number_at, with_number}
+use Rattle.ceu_mem.specs.Bytes.{with_number}
 use Rattle.ceu_mem.proofs.Views.{number_outside}
-use Rattle.ceu_isa.specs.Layout.{gate_of}
 use Rattle.ceu_isa.specs.Safety.{Fits}
 use Rattle.ceu_tree.specs.Residual.{Body, Program, Residual}
 use Rattle.ceu_tree.specs.World.{World}

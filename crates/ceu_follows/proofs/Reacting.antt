@@ -1,17 +1,15 @@
 -- A reaction of the machine comes to what that of the reference semantics comes to: a turn, if there is one, and the end.
-use Rattle.std.proofs.Common.{◌≡◌, refl, sym, ap, ◌∙◌, subst, ℕ, zero, suc, ◌+◌, ◌-◌, ◌≤◌, Bool, true, false, List, [], ◌∷◌, ◌++◌, append_assoc, append-nil, Option, Some, None, inl, inr, arith}
+use Rattle.std.proofs.Common.{◌≡◌, refl, sym, ap, ◌∙◌, subst, ℕ, zero, suc, ◌+◌, ◌-◌, ◌≤◌, false, List, [], ◌∷◌, ◌++◌, append_assoc, append-nil, Option, Some, None, inr, arith}
 use Rattle.ceu_base.specs.declared.kinds.Mark.{Mark}
 use Rattle.ceu_base.specs.declared.kinds.Mark.TheVariants.{Resume}
 use Rattle.ceu_code.specs.declared.image.Image.{Image}
-use Rattle.ceu_mem.specs.Bytes.{number_at, with_number}
 use Rattle.ceu_mem.proofs.Views.{number_written, number_outside}
 use Rattle.ceu_isa.specs.declared.registers.Registers.{Registers}
-use Rattle.ceu_isa.specs.Layout.{waiting, reacting, with_state, state_of, top_of}
+use Rattle.ceu_isa.specs.Layout.{waiting, with_state, top_of}
 use Rattle.ceu_isa.specs.Order.{Choice, Nowhere, Unclear, Chosen}
 use Rattle.ceu_isa.specs.Reactions as machine
 use Rattle.ceu_isa.specs.Reactions.{Next, Nothing, AllClosed, Resumes, first_at, next_turn, resumed, reaction, value_of_end}
 use Rattle.ceu_isa.specs.Commands.{marks_of}
-use Rattle.ceu_isa.specs.Safety.{Fits}
 use Rattle.ceu_isa.specs.Turns as turns
 use Rattle.ceu_isa.specs.Turns.{Machine, State, Trail, changed, rewritten, ticks, longest_turn, begun, turned}
 use Rattle.ceu_tree.specs.declared.kernel.Kernel.{Kernel}
@@ -23,7 +21,7 @@ use Rattle.ceu_tree.specs.Run.{Config, Turning, Between, Waiting, Ended, Faulted
 use Rattle.ceu_shape.specs.Plans.{Plan}
 use Rattle.ceu_shape.specs.Shape.{shape}
 use Rattle.ceu_stands.specs.Views.{View, view, Home}
-use Rattle.ceu_stands.specs.Values.{CellStands, WaitingStands, BetweenStands}
+use Rattle.ceu_stands.specs.Values.{CellStands}
 use Rattle.ceu_laws.proofs.StepLaws.{steps_stand}
 use Rattle.ceu_endings.specs.Ends.{EndsTurns}
 use Rattle.ceu_endings.specs.Laws.{is_turning, Settled}
@@ -32,10 +30,10 @@ use Rattle.ceu_trail.specs.Compiled.{Compiled}
 use Rattle.ceu_trail.specs.Coming.{SameMarks}
 use Rattle.ceu_trail.specs.Laws.{StepsAreDone}
 use Rattle.ceu_trail.specs.Tables.{tables}
-use Rattle.ceu_trail.specs.Turning.{home, TurnStands, MemoryHolds}
+use Rattle.ceu_trail.specs.Turning.{home, TurnStands}
 use Rattle.ceu_follows.specs.Kept.{Kept}
 use Rattle.ceu_follows.specs.Turns.{StandsBetween, SameEnd, TurnDone, TurnBegun}
-use Rattle.ceu_follows.specs.Reactions.{StandsWaiting, Agrees, SameAdded, Follows}
+use Rattle.ceu_follows.specs.Reactions.{StandsWaiting, SameAdded, Follows}
 use Rattle.ceu_follows.proofs.Stepping.{begins_next, waits_next, begins_kept, waits_kept}
 use Rattle.ceu_follows.proofs.Turning.{turn_done}
 use Rattle.ceu_follows.proofs.Beginning.{none_begins, turn_begins}

@@ -1,24 +1,23 @@
 -- What commands make of a program that waits: the configuration that they leave stands in the memory, and holds what it has to.
-use Rattle.std.proofs.Common.{◌≡◌, refl, sym, ap, ◌∙◌, subst, ◌<◌, ◌≤◌, ℕ, zero, suc, ◌+◌, ◌-◌, ℤ, nat_le, Bool, true, false, List, [], ◌∷◌, Option, Some, None, inl, inr, arith}
+use Rattle.std.proofs.Common.{◌≡◌, refl, ap, ◌∙◌, subst, ℕ, zero, suc, ◌-◌, ℤ, nat_le, true, false, List, [], ◌∷◌, Some, None, inr, arith}
 use Rattle.std.specs.Prelude.{slice_get}
 use Rattle.ceu_base.specs.declared.kinds.Port.{Port}
 use Rattle.ceu_base.specs.declared.kinds.Ty.{Ty}
 use Rattle.ceu_base.specs.Values.{IsValue}
 use Rattle.ceu_code.specs.declared.image.Image.{Image}
-use Rattle.ceu_mem.specs.Bytes.{number_at}
 use Rattle.ceu_mem.proofs.Views.{number_written, number_outside}
-use Rattle.ceu_isa.specs.Layout.{reacting, waiting, with_state, state_of, top_of}
+use Rattle.ceu_isa.specs.Layout.{reacting, with_state, top_of}
 use Rattle.ceu_isa.specs.Reactions as machine
 use Rattle.ceu_isa.specs.Safety.{Fits, IsInput}
 use Rattle.ceu_isa.specs.Turns.{Machine, rewritten}
 use Rattle.ceu_tree.specs.declared.command.Command.{Command}
-use Rattle.ceu_tree.specs.declared.command.Command.TheVariants.{Input, Advance, Idle}
+use Rattle.ceu_tree.specs.declared.command.Command.TheVariants.{Input, Advance}
 use Rattle.ceu_tree.specs.declared.kernel.Kernel.{Kernel}
 use Rattle.ceu_tree.specs.Residual.{Body, Residual}
 use Rattle.ceu_tree.specs.World.{World}
 use Rattle.ceu_tree.specs.Wake.{each_leaf, leaves, by_input, later, by_time, least_time}
 use Rattle.ceu_tree.specs.Proper.{port_ty}
-use Rattle.ceu_tree.specs.Run.{Config, Turning, Between, Waiting, Ended, Faulted, world_of, steps, done, advance}
+use Rattle.ceu_tree.specs.Run.{Config, Between, Waiting, world_of, steps, done, advance}
 use Rattle.ceu_shape.specs.Plans.{Plan}
 use Rattle.ceu_legal.specs.Shape.{ConfigFits}
 use Rattle.ceu_legal.proofs.Leaves.{leaves_fit, later_fits}
@@ -38,7 +37,6 @@ use Rattle.ceu_trail.specs.Tables.{tables}
 use Rattle.ceu_trail.specs.Within.{RestWithin}
 use Rattle.ceu_within.proofs.Whole.{input_within, time_within}
 use Rattle.ceu_follows.specs.Kept.{ConfigWithin, Kept}
-use Rattle.ceu_follows.specs.Turns.{StandsBetween}
 use Rattle.ceu_follows.specs.Reactions.{Follows}
 use Rattle.ceu_follows.proofs.Memory.{header_fits, number_bytes}
 use Rattle.ceu_follows.proofs.Headers.{memory_same}

@@ -1,5 +1,5 @@
 -- A step of a reaction of a program of one trail keeps what holds of its configurations.
-use Rattle.std.proofs.Common.{◌≡◌, refl, sym, ap, ◌∙◌, subst, ℕ, zero, suc, true, false, Option, Some, None}
+use Rattle.std.proofs.Common.{◌≡◌, refl, sym, ap, ◌∙◌, subst, zero, suc, true, Option, Some, None}
 use Rattle.ceu_base.specs.declared.kinds.Pos.{Pos}
 use Rattle.ceu_base.specs.declared.kinds.Fault.{Fault}
 use Rattle.ceu_base.specs.declared.kinds.Mark.TheVariants as mark
@@ -11,7 +11,7 @@ use Rattle.ceu_tree.specs.Wake.{runs_at}
 use Rattle.ceu_tree.specs.Around.{Outcome, Goes, Rests, Raises, Fails, Past, Registers, AtBlockEnd, AtLoopHead, Ends, Leaves}
 use Rattle.ceu_tree.specs.Step.{stepped}
 use Rattle.ceu_tree.specs.Proper.{is_proper}
-use Rattle.ceu_tree.specs.Run.{Config, Turning, Between, Waiting, Ended, Faulted, config_of, unless_failed, chosen_at, next, world_of}
+use Rattle.ceu_tree.specs.Run.{Config, Turning, Between, Waiting, Ended, Faulted, config_of, chosen_at, next, world_of}
 use Rattle.ceu_legal.specs.Laws.{is_whole}
 use Rattle.ceu_legal.specs.Shape.{ConfigFits}
 use Rattle.ceu_legal.proofs.RunFits.{next_fits, step_whole}
@@ -21,11 +21,11 @@ use Rattle.ceu_endings.specs.Laws.{AtLevelZero}
 use Rattle.ceu_endings.proofs.Shapes.{no_codes}
 use Rattle.ceu_endings.proofs.CountedRuns as counters
 use Rattle.ceu_endings.proofs.Calm.{Good, next_good}
-use Rattle.ceu_trail.specs.Within.{TurnWithin, RestWithin}
+use Rattle.ceu_trail.specs.Within.{TurnWithin}
 use Rattle.ceu_within.specs.Laws.{OutcomeWithin}
 use Rattle.ceu_within.proofs.Whole.{step_within, chosen_within}
 use Rattle.ceu_follows.specs.Kept.{ConfigWithin, Kept}
-use Rattle.ceu_follows.proofs.Unharmed.{Clear, FailsClear, Unharmed, step_unharmed, aborted_quietly}
+use Rattle.ceu_follows.proofs.Unharmed.{FailsClear, Unharmed, step_unharmed, aborted_quietly}
 
 module _ (K : Kernel) (proper : is_proper K ≡ true) (single : is_single K ≡ true) where
   pub step_of : (f : Focus Act) (w : World) → ConfigFits K (Turning 0 f w) → Unharmed w (stepped K 0 Program f w)

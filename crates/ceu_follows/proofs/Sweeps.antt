@@ -1,9 +1,9 @@
 -- A change of all gates that pass a test leaves the header as it was, and what is changed are bytes.
-use Rattle.std.proofs.Common.{◌≡◌, refl, sym, ap, ◌∙◌, subst, ◌<◌, ◌≤◌, ℕ, zero, suc, ◌+◌, Bool, true, false, List, length, arith}
+use Rattle.std.proofs.Common.{◌≡◌, refl, ◌∙◌, ◌≤◌, ℕ, zero, suc, ◌+◌, Bool, true, false, List}
 use Rattle.ceu_code.specs.declared.image.Image.{Image}
 use Rattle.ceu_mem.specs.declared.gate.Gate.{Gate}
 use Rattle.ceu_mem.specs.Bytes.{number_at}
-use Rattle.ceu_isa.specs.Layout.{gate_of, gate_changed, if_changed, each_gate}
+use Rattle.ceu_isa.specs.Layout.{gate_of, if_changed, each_gate}
 use Rattle.ceu_isa.specs.Safety.{Fits}
 use Rattle.ceu_stands.specs.Laws.{AreBytes}
 use Rattle.ceu_follows.proofs.Memory.{put_fits, put_bytes, put_header}

@@ -1,9 +1,8 @@
 -- What the machine finds in the gates of a program that waits: the time that is left, if its leaf waits for a time, and no async.
-use Rattle.std.proofs.Common.{◌≡◌, refl, sym, ap, ◌∙◌, subst, ◌<◌, ◌≤◌, ℕ, zero, suc, ◌+◌, min, Bool, true, false, ◌==◌, List, [], ◌∷◌, ◌++◌, Option, Some, None, arith}
-use Rattle.std.specs.Prelude.{if◌then◌else◌}
+use Rattle.std.proofs.Common.{◌≡◌, refl, sym, ap, ◌∙◌, subst, ◌<◌, ◌≤◌, ℕ, zero, suc, true, false, ◌==◌, List, [], ◌∷◌, ◌++◌, Option, Some, None, arith}
 use Rattle.ceu_code.specs.declared.image.Image.{Image}
 use Rattle.ceu_mem.specs.declared.gate.Gate.{Gate}
-use Rattle.ceu_isa.specs.Layout.{gate_of, gates_from, free, can_run, on_input, on_time, on_event, forever, unserved, served, is_unserved}
+use Rattle.ceu_isa.specs.Layout.{gate_of, free, can_run, on_input, on_time, on_event, forever, unserved, is_unserved}
 use Rattle.ceu_isa.specs.Order.{Nowhere}
 use Rattle.ceu_isa.specs.Commands as machine
 use Rattle.ceu_isa.specs.Commands.{is_timer, least_of, first_unserved}
@@ -16,8 +15,8 @@ use Rattle.ceu_tree.specs.World.{World}
 use Rattle.ceu_legal.specs.Shape.{Fits, program_part}
 use Rattle.ceu_single.specs.Single.{is_single}
 use Rattle.ceu_stands.specs.Tables.{Tables}
-use Rattle.ceu_stands.specs.Views.{View, view, Home}
-use Rattle.ceu_stands.specs.Leaves.{async_kind, RunsGate, LeafGate}
+use Rattle.ceu_stands.specs.Views.{view, Home}
+use Rattle.ceu_stands.specs.Leaves.{RunsGate, LeafGate}
 use Rattle.ceu_stands.specs.Values.{MemoryStands}
 use Rattle.ceu_endings.specs.OneTrail.{OneLeaf}
 use Rattle.ceu_endings.proofs.Shapes.{one_leaf, no_codes}

@@ -3,7 +3,7 @@
 #![tactic(auto)]
 
 ghost use Rattle.ceu_follows.specs.Kept.{StepsKeep};
-ghost use Rattle.ceu_follows.specs.Laws.{BootFollows, CommandsFollow, ImageIsSound, NoneBegins, ReactionsFollow, RunsFollow, TurnsAreDone, TurnsBegin};
+ghost use Rattle.ceu_follows.specs.Laws.{BootFollows, CommandsFollow, ImageIsSound, NoneBegins, ReactionsFollow, RunsAreDone, RunsFollow, TurnsAreDone, TurnsBegin};
 
 /// A step of a reaction keeps what holds of configurations.
 pub fn steps_keep()
@@ -45,7 +45,12 @@ pub fn runs_follow()
     ensures { RunsFollow }
 {}
 
-/// So the image is sound: whatever commands come, nothing is done that isn't allowed.
+/// So the marks and the outcome of a run of the machine are those of the run by the reference semantics,
+pub fn runs_are_done()
+    ensures { RunsAreDone }
+{}
+
+/// and the image is sound: whatever commands come, nothing is done that isn't allowed.
 pub fn image_is_sound()
     ensures { ImageIsSound }
 {}
