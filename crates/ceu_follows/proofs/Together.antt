@@ -5,7 +5,7 @@ use Rattle.ceu_code.specs.declared.image.Image.{Image}
 use Rattle.ceu_isa.specs.Reactions as machine
 use Rattle.ceu_isa.specs.Commands.{marks_of}
 use Rattle.ceu_tree.specs.declared.kernel.Kernel.{Kernel}
-use Rattle.ceu_tree.specs.Run.{Config, world_of}
+use Rattle.ceu_tree.specs.Run.{Config, Waiting, world_of}
 use Rattle.ceu_shape.specs.Plans.{Plan}
 use Rattle.ceu_follows.specs.Reactions.{Agrees, SameAdded, Follows}
 
@@ -36,3 +36,7 @@ module _ (image : Image) (P : Plan) (width : ℕ → ℕ) (K : Kernel) where
     agrees = y.agrees;
     marks = added_then before (world_of x.config).marks (world_of y.config).marks had (marks_of d) (marks_of e) x.marks y.marks;
   }
+
+  pub without_marks : (c : Config) (bytes : List ℕ) (ms ns : List Mark) → Agrees image P width K c (machine.Waits (record { bytes = bytes; marks = ms })) → Agrees image P width K c (machine.Waits (record { bytes = bytes; marks = ns }))
+  without_marks (Waiting r w) bytes ms ns h = record { kept = h.kept; fits = h.fits; are_bytes = h.are_bytes; top_is = h.top_is; stands = h.stands }
+  without_marks c bytes ms ns h = absurd h

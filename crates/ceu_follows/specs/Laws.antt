@@ -1,6 +1,7 @@
 -- The laws: turns, reactions, commands and runs of the machine on the code of a program of one trail, where one step in a turn is as it should be.
 use Rattle.std.specs.Prelude.{◌≡◌, ℕ, List, [], Some, None}
 use Rattle.std.specs.List.{AllByRecursion}
+use Rattle.ceu_base.specs.declared.kinds.Mark.{Mark}
 use Rattle.ceu_code.specs.declared.image.Image.{Image}
 use Rattle.ceu_isa.specs.declared.registers.Registers.{Registers}
 use Rattle.ceu_isa.specs.Commands as commands
@@ -53,6 +54,12 @@ ReactionsFollow =
     (image : Image) (P : Plan) (width : ℕ → ℕ) (K : Kernel) (r : Residual) (w : World) (m : Machine)
     → StepsAreDone → Compiled image P width K → EndsTurns K → Kept K (Between 0 r w) → StandsBetween image P width K r w m
     → Follows image P width K w.marks m.marks (λ n. steps K n (Between 0 r w)) (reaction image image.turns m)
+
+-- Marks that the machine has made are no part of this, so that each command may begin with none.
+abbrev pub MarksAreNoPart : Type 0
+MarksAreNoPart =
+    (image : Image) (P : Plan) (width : ℕ → ℕ) (K : Kernel) (c : Config) (bytes : List ℕ) (ms ns : List Mark)
+    → Agrees image P width K c (machine.Waits (record { bytes = bytes; marks = ms })) → Agrees image P width K c (machine.Waits (record { bytes = bytes; marks = ns }))
 
 -- So it is with boot, and with each command from configurations that agree.
 abbrev pub BootFollows : Type 0

@@ -3,7 +3,7 @@
 #![tactic(auto)]
 
 ghost use Rattle.ceu_follows.specs.Kept.{StepsKeep};
-ghost use Rattle.ceu_follows.specs.Laws.{BootFollows, CommandsFollow, ImageIsSound, NoneBegins, ReactionsFollow, RunsAreDone, RunsFollow, TurnsAreDone, TurnsBegin};
+ghost use Rattle.ceu_follows.specs.Laws.{BootFollows, CommandsFollow, ImageIsSound, MarksAreNoPart, NoneBegins, ReactionsFollow, RunsAreDone, RunsFollow, TurnsAreDone, TurnsBegin};
 
 /// A step of a reaction keeps what holds of configurations.
 pub fn steps_keep()
@@ -28,6 +28,11 @@ pub fn none_begins()
 /// So a reaction comes to what that of the reference semantics comes to, with the same marks.
 pub fn reactions_follow()
     ensures { ReactionsFollow }
+{}
+
+/// Whether two configurations agree says nothing on the marks that were made before.
+pub fn marks_are_no_part()
+    ensures { MarksAreNoPart }
 {}
 
 /// Boot comes to what that of the reference semantics comes to,
