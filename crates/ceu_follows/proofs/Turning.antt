@@ -126,7 +126,7 @@ module _ (image : Image) (P : Plan) (width : ℕ → ℕ) (K : Kernel) where
         by_outcome f w r m k x u e
         (subst (Kept K) e (next_kept K ends.proper ends.single (Turning 0 f w) kept refl))
         (step_of K ends.proper ends.single f w kept.fits).clear
-        (laws image P width K f w r m compiled kept.fits kept.valued kept.within stands)
+        (laws image P width K f w r m compiled kept.fits kept.valued kept.counted kept.within stands)
         (λ g q n o kept_on stands_on. runs k g u q n kept_on stands_on (sym (ap is_turning (steps_on k f w (Turning 0 g u) o)) ∙ over))
 
     pub turn_done : (f : Focus Act) (w : World) (r : Registers) (m : Machine) → Kept K (Turning 0 f w) → TurnStands image P width K f w r m.bytes
