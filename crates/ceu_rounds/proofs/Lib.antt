@@ -1,0 +1,3 @@
+pub mod Asyncs
+pub mod Heads
+pub mod Loops
