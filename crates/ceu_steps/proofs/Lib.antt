@@ -21,3 +21,5 @@ pub mod Turns
 pub mod Assigns
 pub mod Worlds
 pub mod Outs
+pub mod Finds
+pub mod Knot

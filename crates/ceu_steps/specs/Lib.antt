@@ -3,3 +3,4 @@ pub mod Reached
 pub mod Ready
 pub mod Premises
 pub mod Live
+pub mod Laws
