@@ -1,3 +1,9 @@
 pub mod Asyncs
 pub mod Heads
 pub mod Loops
+pub mod Spots
+pub mod FreeLoops
+pub mod LoopEnds
+pub mod HiddenSlots
+pub mod Counting
+pub mod LoopSlots
