@@ -1,7 +1,7 @@
 -- Instructions of a loop with a bound: a constant goes on a cell, and one more turn is counted.
 use Rattle.std.proofs.Common.{◌≡◌, ◌≢◌, refl, sym, ap, ◌∙◌, subst, ◌<◌, ◌≤◌, inl, inr, ℕ, ◌+◌, ◌*◌, ◌%◌, ◌^◌, ℤ, pos, Bool, true, false, ◌==◌, ◌&&◌, List, [], ◌∷◌, ◌++◌, Option, Some, None, Contains, arith, eqb-true, eq-eqb}
 use Rattle.std.specs.Prelude.{slice_get, nat_lt, if◌then◌else◌}
-use Rattle.std.proofs.lemmas.Bool.{le-leb, lt-ltb, ltb-true, and_from, and_parts, false≢true}
+use Rattle.std.proofs.lemmas.Bool.{le-leb, lt-ltb, ltb-true, ltb-false, and_from, and_parts, false≢true}
 use Rattle.ceu_base.specs.declared.kinds.Fault.TheVariants.{LoopLimit}
 use Rattle.ceu_base.specs.declared.kinds.Pos.{Pos}
 use Rattle.ceu_base.specs.declared.kinds.Ty.TheVariants as ty
@@ -23,6 +23,13 @@ use Rattle.ceu_steps.specs.Running.{Runs, Unseen, trail_at}
 use Rattle.ceu_steps.proofs.Bytes.{number_bytes}
 use Rattle.ceu_steps.proofs.Ticks.{did}
 use Rattle.ceu_steps.proofs.Lines.{line_runs}
+
+pub one_more : (j limit : ℕ) → j ≤ limit → j ≢ limit → limit < 2 ^ 32 → j + 1 < 2 ^ 32
+one_more j limit le ne lt = go (nat_lt j limit) refl
+  where
+    go : (t : Bool) → nat_lt j limit ≡ t → j + 1 < 2 ^ 32
+    go true q = let z = ltb-true j limit q in omega (arith, z, lt)
+    go false q = absurd (ne (let z = ltb-false j limit q in omega (arith, z, le)))
 
 -- ---- a constant goes on the first cell
 

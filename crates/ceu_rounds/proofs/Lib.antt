@@ -7,3 +7,5 @@ pub mod LoopEnds
 pub mod HiddenSlots
 pub mod Counting
 pub mod LoopSlots
+pub mod TimesLoops
+pub mod Rising
