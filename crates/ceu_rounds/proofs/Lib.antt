@@ -9,3 +9,4 @@ pub mod Counting
 pub mod LoopSlots
 pub mod TimesLoops
 pub mod Rising
+pub mod Exits
