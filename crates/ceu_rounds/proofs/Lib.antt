@@ -10,3 +10,4 @@ pub mod LoopSlots
 pub mod TimesLoops
 pub mod Rising
 pub mod Exits
+pub mod Leaving
