@@ -1,36 +1,33 @@
 -- An assignment: its expression, and then its variable.
-use Rattle.std.proofs.Common.{◌≡◌, refl, sym, ap, ◌∙◌, subst, ◌<◌, ◌≤◌, ℕ, ◌+◌, ◌*◌, ℤ, Bool, true, false, ◌&&◌, List, [], ◌∷◌, ◌++◌, Option, Some, None, Result, Ok, Err, Contains, arith}
+use Rattle.std.proofs.Common.{◌≡◌, refl, sym, ap, subst, ℕ, ◌+◌, ℤ, Bool, true, false, ◌&&◌, List, [], ◌∷◌, ◌++◌, Some, Ok, Err, arith}
 use Rattle.std.specs.Prelude.{if◌then◌else◌}
 use Rattle.std.proofs.lemmas.Bool.{and_parts}
 use Rattle.std.proofs.lemmas.List.{append-nil}
-use Rattle.ceu_base.specs.declared.kinds.Fault.{Fault}
 use Rattle.ceu_base.specs.declared.kinds.Pos.{Pos}
 use Rattle.ceu_base.specs.Values.{IsValue}
 use Rattle.ceu_code.specs.declared.image.Image.{Image}
-use Rattle.ceu_code.specs.declared.instr.Instr.{Instr}
 use Rattle.ceu_code.specs.declared.instr.Instr.TheVariants as instr
 use Rattle.ceu_code.specs.Instructions.{size}
 use Rattle.ceu_asm.specs.declared.line.Line.{Line}
 use Rattle.ceu_isa.specs.Layout.{slots_at}
 use Rattle.ceu_isa.specs.Fetching.{fetched}
-use Rattle.ceu_isa.specs.Turns.{Machine, Trail, rewritten}
+use Rattle.ceu_isa.specs.Turns.{Machine, rewritten}
 use Rattle.ceu_fetch.specs.Placed.{Placed}
 use Rattle.ceu_fetch.proofs.Lines.{parts_are_placed}
 use Rattle.ceu_mem.specs.Memory.{with_value}
 use Rattle.ceu_tree.specs.declared.kernel.Kernel.{Kernel}
 use Rattle.ceu_tree.specs.declared.kernel.KExp.{KExp}
 use Rattle.ceu_tree.specs.declared.kernel.KNode.{KNode}
-use Rattle.ceu_tree.specs.declared.kernel.KBlock.{KBlock, out-KBlock}
-use Rattle.ceu_tree.specs.declared.kernel.KStmt.{KStmt, out-KStmt, Assign}
+use Rattle.ceu_tree.specs.declared.kernel.KBlock.{KBlock}
+use Rattle.ceu_tree.specs.declared.kernel.KStmt.{out-KStmt, Assign}
 use Rattle.ceu_tree.specs.declared.kernel.Loc.{Loc}
 use Rattle.ceu_tree.specs.Depth.{stmt_depth, exp_depth}
 use Rattle.ceu_tree.specs.Expressions.{Answer, value_of}
 use Rattle.ceu_tree.specs.Leaf as does
 use Rattle.ceu_tree.specs.Leaf.{acted, or_fails}
-use Rattle.ceu_tree.specs.Numbering.{stmt_slots, stmt_nodes}
 use Rattle.ceu_tree.specs.Proper.{Scope, reads, asks, takes, gives, stmt_ok}
-use Rattle.ceu_tree.specs.Residual.{Program, Act, Start, no_instance}
-use Rattle.ceu_tree.specs.Focus.{Frame, OfBlock, Focus, Here, In}
+use Rattle.ceu_tree.specs.Residual.{Program, Start, no_instance}
+use Rattle.ceu_tree.specs.Focus.{Frame, OfBlock, Here, In}
 use Rattle.ceu_tree.specs.Step.{stepped}
 use Rattle.ceu_tree.specs.Typing.{typed, holds_all}
 use Rattle.ceu_tree.specs.World.{World, assign}
@@ -49,22 +46,19 @@ use Rattle.ceu_trail.specs.Turning.{MemoryHolds}
 use Rattle.ceu_within.proofs.Widths.{variable}
 use Rattle.ceu_within.proofs.Scopes.{target_in}
 use Rattle.ceu_within.proofs.Leaf.{given_value}
-use Rattle.ceu_steps.specs.Running.{Runs, trail_at}
-use Rattle.ceu_steps.specs.Ready.{Brings, Breaks, Evaluated}
+use Rattle.ceu_steps.specs.Running.{trail_at}
+use Rattle.ceu_steps.specs.Ready.{Brings, Evaluated}
 use Rattle.ceu_evaluates.specs.Seen.{NodePlaced}
 use Rattle.ceu_steps.specs.Premises.{BuiltLaws, LayerPlaced}
-use Rattle.ceu_steps.specs.Reached.{wrap, is_whole, Reached}
-use Rattle.ceu_steps.specs.Live.{vars_in, slots_in, hidden_in}
+use Rattle.ceu_steps.specs.Reached.{wrap}
+use Rattle.ceu_steps.specs.Live.{vars_in}
 use Rattle.ceu_steps.proofs.Ticks.{onward, wider}
-use Rattle.ceu_steps.proofs.Frames.{AllCount}
 use Rattle.ceu_steps.proofs.Lines.{goto_runs}
 use Rattle.ceu_steps.proofs.Expressions.{expression_runs}
 use Rattle.ceu_steps.proofs.Unseen.{holds_unseen, unseen_numbers}
 use Rattle.ceu_steps.proofs.Store.{store_runs, stored, room, hidden_is_in}
-use Rattle.ceu_steps.proofs.Scenes.{Scene}
-use Rattle.ceu_steps.proofs.Comes.{StandsIn, no_marks}
 use Rattle.ceu_steps.proofs.Simple.{Passed, pass_comes}
-use Rattle.ceu_steps.proofs.Turns.{AtStart, Sizes, sizes_of, counts_stay, fault_comes, reached, among, some_gate, scene, fine, live, deep, cells, positions, is_ready}
+use Rattle.ceu_steps.proofs.Turns.{AtStart, sizes_of, counts_stay, fault_comes, reached, among, some_gate, scene, fine, live, deep, cells, positions, is_ready}
 use denote.Hole.Carrier
 
 -- the first of some lines

@@ -1,15 +1,14 @@
 -- A block begins: its own label is where its first statement stands, or its end.
-use Rattle.std.proofs.Common.{◌≡◌, refl, sym, ap, ◌∙◌, subst, ◌≤◌, ℕ, ◌+◌, Bool, true, false, List, [], ◌∷◌, ◌++◌, arith}
+use Rattle.std.proofs.Common.{◌≡◌, refl, sym, subst, ℕ, Bool, true, List, [], ◌∷◌, arith}
 use Rattle.ceu_code.specs.declared.image.Image.{Image}
-use Rattle.ceu_isa.specs.declared.registers.Registers.{Registers}
 use Rattle.ceu_isa.specs.Turns.{Machine}
 use Rattle.ceu_tree.specs.declared.kernel.Kernel.{Kernel}
 use Rattle.ceu_tree.specs.declared.kernel.KBlock.{KBlock, out-KBlock}
 use Rattle.ceu_tree.specs.Leaf.{next_of, rest_of}
 use Rattle.ceu_tree.specs.Proper.{Scope}
-use Rattle.ceu_tree.specs.Residual.{Program, Act, Begin, no_instance}
-use Rattle.ceu_tree.specs.Focus.{Frame, OfBlock, Focus, Here, In}
-use Rattle.ceu_tree.specs.Around.{Moved, moved, Goes}
+use Rattle.ceu_tree.specs.Residual.{Program, Begin, no_instance}
+use Rattle.ceu_tree.specs.Focus.{Frame, OfBlock, Here, In}
+use Rattle.ceu_tree.specs.Around.{Moved}
 use Rattle.ceu_tree.specs.Step.{stepped}
 use Rattle.ceu_tree.specs.World.{World}
 use Rattle.ceu_legal.specs.Shape.{ABlock}
@@ -25,9 +24,9 @@ use Rattle.ceu_steps.specs.Running.{trail_at}
 use Rattle.ceu_steps.specs.Premises.{BuiltLaws}
 use Rattle.ceu_steps.specs.Reached.{wrap, is_whole, Reached}
 use Rattle.ceu_steps.proofs.Ticks.{stay}
-use Rattle.ceu_steps.proofs.Frames.{AllCount, counted_out, opens_is, focus_out}
+use Rattle.ceu_steps.proofs.Frames.{counted_out, opens_is, focus_out}
 use Rattle.ceu_steps.proofs.Places.{opens_of, next_place}
-use Rattle.ceu_steps.proofs.Comes.{StandsIn, comes_on, no_marks}
+use Rattle.ceu_steps.proofs.Comes.{comes_on, no_marks}
 
 module _ (laws : BuiltLaws) (image : Image) (P : Plan) (width : ℕ → ℕ) (K : Kernel) (compiled : Compiled image P width K) where
   begin_place : (outer : List Frame) (b : KBlock) (at : ℕ) (bytes : List ℕ) → FocusAt image P width K true (wrap outer (Here (Begin b))) at bytes → at ≡ at_label image P K (own_label (node_of_block b))

@@ -1,10 +1,8 @@
 -- What is written in the memory are bytes.
-use Rattle.std.proofs.Common.{◌≡◌, refl, sym, ap, ◌∙◌, subst, ◌<◌, ◌≤◌, ◌⊎◌, inl, inr, ℕ, zero, suc, ◌+◌, ◌*◌, ◌/◌, ◌%◌, Bool, true, false, List, [], ◌∷◌, length, Option, Some, None, arith}
-use Rattle.std.specs.Prelude.{slice_index, slice_set}
-use Rattle.std.proofs.Math.Seq.{get_or-set_same, get_or-set_other}
-use Rattle.std.proofs.lemmas.Bool.{cases_lt}
+use Rattle.std.proofs.Common.{sym, subst, ◌<◌, ℕ, zero, suc, ◌+◌, ◌/◌, ◌%◌, List, [], ◌∷◌, arith}
+use Rattle.std.specs.Prelude.{slice_set}
 use Rattle.ceu_mem.specs.declared.gate.Gate.{Gate}
-use Rattle.ceu_mem.specs.Bytes.{number_at, with_number}
+use Rattle.ceu_mem.specs.Bytes.{with_number}
 use Rattle.ceu_mem.specs.Memory.{with_gate}
 use Rattle.ceu_mem.proofs.Views.{with_number_step, with_number_nothing}
 use Rattle.ceu_code.specs.declared.image.Image.{Image}

@@ -1,27 +1,25 @@
 -- A turn that stands in the memory, taken apart and put together.
-use Rattle.std.proofs.Common.{◌≡◌, refl, sym, ap, ◌∙◌, subst, ◌<◌, ◌≤◌, ℕ, ◌+◌, ◌^◌, Bool, true, false, List, [], ◌∷◌, ◌++◌, Option, Some, None, arith}
+use Rattle.std.proofs.Common.{◌≡◌, sym, ◌∙◌, ◌≤◌, ℕ, List, [], ◌∷◌, arith}
 use Rattle.std.proofs.lemmas.List.{append-nil}
 use Rattle.ceu_base.specs.declared.kinds.Fault.{Fault}
 use Rattle.ceu_base.specs.declared.kinds.Pos.{Pos}
-use Rattle.ceu_base.specs.declared.kinds.Mark.{Mark}
 use Rattle.ceu_code.specs.declared.image.Image.{Image}
 use Rattle.ceu_isa.specs.declared.registers.Registers.{Registers}
-use Rattle.ceu_isa.specs.Turns as machine
 use Rattle.ceu_isa.specs.Turns.{Machine, State, Trail, rewritten}
 use Rattle.ceu_tree.specs.declared.kernel.Kernel.{Kernel}
 use Rattle.ceu_tree.specs.Residual.{Act}
-use Rattle.ceu_tree.specs.Focus.{Frame, Focus, Here, In}
+use Rattle.ceu_tree.specs.Focus.{Frame, Here, In}
 use Rattle.ceu_tree.specs.World.{World}
 use Rattle.ceu_shape.specs.Plans.{Plan}
 use Rattle.ceu_stands.specs.Views.{view}
 use Rattle.ceu_trail.specs.Tables.{tables}
-use Rattle.ceu_trail.specs.Turning.{FrameCounts, Counted, ActAt, FocusAt, MemoryHolds, TurnStands}
-use Rattle.ceu_trail.specs.Coming.{most_ticks, Reaches, SameMarks, ComesOn, ComesToFault}
+use Rattle.ceu_trail.specs.Turning.{ActAt, MemoryHolds, TurnStands}
+use Rattle.ceu_trail.specs.Coming.{Reaches, SameMarks, ComesOn, ComesToFault}
 use Rattle.ceu_steps.specs.Running.{Runs, trail_at}
 use Rattle.ceu_steps.specs.Ready.{Breaks}
 use Rattle.ceu_steps.specs.Reached.{wrap, is_whole}
-use Rattle.ceu_steps.proofs.Frames.{AllCount, counted_out, counted_in, counted_here, counted_frame, focus_out, act_out, act_in}
-use Rattle.ceu_steps.proofs.Lines.{is_trail_at, trail_is}
+use Rattle.ceu_steps.proofs.Frames.{AllCount, counted_out, counted_in, counted_here, act_out, act_in}
+use Rattle.ceu_steps.proofs.Lines.{trail_is}
 
 pub no_marks : (w : World) (m : Machine) (bytes : List ℕ) → SameMarks w m w (rewritten bytes m)
 no_marks w m bytes = record { added = []; semantics = sym (append-nil w.marks); machine = sym (append-nil m.marks) }

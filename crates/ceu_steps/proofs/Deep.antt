@@ -1,13 +1,12 @@
 -- The image has cells enough for each expression of a part that is reached.
-use Rattle.std.proofs.Common.{◌≡◌, refl, sym, ap, ◌∙◌, subst, ◌<◌, ◌≤◌, inl, inr, ℕ, ◌+◌, max, Bool, true, List, [], ◌∷◌, ◌++◌, arith}
+use Rattle.std.proofs.Common.{◌≡◌, sym, ◌∙◌, subst, ◌<◌, ◌≤◌, inl, inr, ℕ, List, [], ◌∷◌, ◌++◌, arith}
 use Rattle.ceu_tree.specs.declared.kernel.Kernel.{Kernel}
-use Rattle.ceu_tree.specs.declared.kernel.KArm.{KArm, KArm', out-KArm}
+use Rattle.ceu_tree.specs.declared.kernel.KArm.{KArm', out-KArm}
 use Rattle.ceu_tree.specs.declared.kernel.KNode.{KNode}
 use Rattle.ceu_tree.specs.declared.kernel.KLoop.{KLoop}
 use Rattle.ceu_tree.specs.declared.kernel.KBlock.{KBlock, KBlock', out-KBlock, Row_of-KNode, end_of-KNode, more_of-KNode, items-the_row-KNode, items_shown-the_row-KNode-2}
 use Rattle.ceu_tree.specs.declared.kernel.KStmt.{KStmt, out-KStmt, Row_of-KArm, end_of-KArm, more_of-KArm, items-the_row-KArm, items_shown-the_row-KArm-0, Do, If', Loop}
-use Rattle.ceu_tree.specs.declared.kernel.KStmt.TheOpen.{KStmt-F}
-use Rattle.ceu_tree.specs.Depth.{stmt_depth, block_depth, arm_depth, nodes_depth, arms_depth, loop_depth, depth}
+use Rattle.ceu_tree.specs.Depth.{stmt_depth, block_depth, nodes_depth, arms_depth, depth}
 use Rattle.ceu_tree.specs.Focus.{Frame}
 use Rattle.ceu_legal.specs.Shape.{Part, ABlock, AStatement, AnEnd, opens_part, among_arms}
 use Rattle.ceu_steps.specs.Reached.{Reached, at_program, at_statement, at_end, in_part, in_turn}

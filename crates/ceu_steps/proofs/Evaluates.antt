@@ -1,13 +1,11 @@
 -- Instructions that a finalizer may do as well leave the header, the gates and the trail's own gate as they were, and bytes in the memory.
-use Rattle.std.proofs.Common.{◌≡◌, refl, sym, ap, ◌∙◌, subst, ◌<◌, ◌≤◌, ◌⊎◌, inl, inr, ℕ, zero, suc, ◌+◌, ◌-◌, ◌*◌, ℤ, pos, Bool, true, false, List, [], ◌∷◌, length, Option, Some, None, Result, Ok, Err, arith}
+use Rattle.std.proofs.Common.{◌≡◌, refl, ◌∙◌, subst, ◌<◌, ◌≤◌, inl, inr, ℕ, ◌+◌, ◌-◌, ℤ, pos, Bool, true, false, List, [], ◌∷◌, length, Option, Some, None, Result, Ok, Err, arith}
 use Rattle.std.specs.Prelude.{slice_get, slice_index, nat_lt, nat_le, if◌then◌else◌, ◌&&◌}
 use Rattle.std.proofs.lemmas.Bool.{false≢true, and_parts, ltb-true, leb-true}
 use Rattle.ceu_base.specs.declared.kinds.Ty.{Ty}
 use Rattle.ceu_base.specs.declared.kinds.Ty.TheVariants as ty
 use Rattle.ceu_base.specs.declared.kinds.Fault.{Fault}
 use Rattle.ceu_base.specs.declared.kinds.Pos.{Pos}
-use Rattle.ceu_base.specs.declared.kinds.Port.{Port}
-use Rattle.ceu_base.specs.declared.kinds.Mark.{Mark}
 use Rattle.ceu_base.specs.declared.kinds.Mark.TheVariants.{Output}
 use Rattle.ceu_base.specs.Values.{is_value, same, wrapped, applied1, applied2, takes1, takes2, right_type, of_test}
 use Rattle.ceu_code.specs.declared.image.Image.{Image}
@@ -19,7 +17,7 @@ use Rattle.ceu_mem.specs.Memory.{size, value_at, with_value}
 use Rattle.ceu_isa.specs.declared.registers.Registers.{Registers}
 use Rattle.ceu_mem.proofs.Views.{length-with_number, byte_outside}
 use Rattle.ceu_isa.specs.Layout.{cell_at, scratch_at, with_scratch, in_slots, gates_at, slots_at, end_of}
-use Rattle.ceu_isa.specs.Effects.{Effect, Wrong, Goes, Pauses, Finishes, Faults, Aborts, Leaves, provided, for_some}
+use Rattle.ceu_isa.specs.Effects.{Effect, Goes, provided, for_some}
 use Rattle.ceu_isa.specs.Cells.{Popped, popped, popped_unless_none, pushed, answered, prefixed, combined, converted, has_values, has_top, top_value, below}
 use Rattle.ceu_isa.specs.Fetching.{cell_type}
 use Rattle.ceu_isa.specs.Slots.{here, outer, load_at, store_at}

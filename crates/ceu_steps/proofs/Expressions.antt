@@ -1,6 +1,6 @@
 -- The part of an expression: the trail goes to it and comes back with its value, or the program has faulted.
-use Rattle.std.proofs.Common.{◌≡◌, refl, sym, ap, ◌∙◌, subst, ◌<◌, ◌≤◌, ℕ, zero, suc, ◌+◌, ◌*◌, Bool, true, false, List, [], ◌∷◌, ◌++◌, length, Option, Some, None, Result, Ok, Err, arith}
-use Rattle.std.specs.Prelude.{slice_index, nat_lt, if◌then◌else◌}
+use Rattle.std.proofs.Common.{◌≡◌, refl, sym, ap, ◌∙◌, subst, ◌<◌, ◌≤◌, ℕ, zero, suc, ◌+◌, ◌*◌, Bool, List, [], ◌∷◌, length, Some, Ok, Err, arith}
+use Rattle.std.specs.Prelude.{if◌then◌else◌}
 use Rattle.std.proofs.lemmas.Bool.{lt-ltb}
 use Rattle.ceu_base.specs.declared.kinds.Fault.{Fault}
 use Rattle.ceu_base.specs.declared.kinds.Pos.{Pos}
@@ -8,13 +8,9 @@ use Rattle.ceu_code.specs.declared.image.Image.{Image}
 use Rattle.ceu_code.specs.declared.instr.Instr.TheVariants as instr
 use Rattle.ceu_asm.specs.declared.line.Line.{Line}
 use Rattle.ceu_asm.specs.Lines.{code_size}
-use Rattle.ceu_mem.specs.declared.gate.Gate.{Gate}
-use Rattle.ceu_mem.specs.Bytes.{number_at}
 use Rattle.ceu_isa.specs.declared.registers.Registers.{Registers}
-use Rattle.ceu_isa.specs.Layout.{free, gates_at, slots_at, gate_of, cell_at}
+use Rattle.ceu_isa.specs.Layout.{free, gates_at, gate_of}
 use Rattle.ceu_isa.specs.Fetching.{fetched}
-use Rattle.ceu_isa.specs.Safety.{Fits}
-use Rattle.ceu_isa.specs.Turns as machine
 use Rattle.ceu_isa.specs.Turns.{Machine, State, Trail, rewritten, behind, failing}
 use Rattle.ceu_fetch.specs.Placed.{Placed}
 use Rattle.ceu_fetch.proofs.Lines.{parts_are_placed}
@@ -24,18 +20,18 @@ use Rattle.ceu_tree.specs.Expressions.{Answer, value_of}
 use Rattle.ceu_tree.specs.Residual.{Program}
 use Rattle.ceu_tree.specs.World.{World}
 use Rattle.ceu_shape.specs.Plans.{Plan}
-use Rattle.ceu_shape.specs.Words.{mark, goto}
+use Rattle.ceu_shape.specs.Words.{goto}
 use Rattle.ceu_shape.specs.Expressions.{exp_draft}
 use Rattle.ceu_shape.specs.Shape.{exp_part}
-use Rattle.ceu_evaluates.specs.Does.{Does, steps_of, Gives, Pushes, Fails}
+use Rattle.ceu_evaluates.specs.Does.{steps_of, Gives}
 use Rattle.ceu_evaluates.proofs.Nodes.{expressions_evaluate}
 use Rattle.ceu_evaluates.proofs.Numbers.{number_agrees}
 use Rattle.ceu_evaluates.proofs.Ticks.{instructions_are_steps}
-use Rattle.ceu_stands.specs.Views.{view, gate_seen, no_gate}
+use Rattle.ceu_stands.specs.Views.{no_gate}
 use Rattle.ceu_trail.specs.Built.{at_label, number}
 use Rattle.ceu_trail.specs.Turning.{MemoryHolds}
-use Rattle.ceu_steps.specs.Running.{Runs, Unseen, trail_at}
-use Rattle.ceu_steps.specs.Ready.{Ready, Brings, Breaks, Evaluated, longest}
+use Rattle.ceu_steps.specs.Running.{Runs, trail_at}
+use Rattle.ceu_steps.specs.Ready.{Ready, Breaks, Evaluated}
 use Rattle.ceu_steps.proofs.Ticks.{onward, wider}
 use Rattle.ceu_steps.proofs.Lines.{goto_runs, lies_in}
 use Rattle.ceu_steps.proofs.Unseen.{kept_unseen}

@@ -1,14 +1,14 @@
 -- A turn of a program of one trail that fits: its leaf is reached inside plain frames.
-use Rattle.std.proofs.Common.{◌≡◌, refl, sym, ap, ◌∙◌, subst, ℕ, Bool, true, false, List, [], ◌∷◌, ◌++◌, append_assoc, Option, Some, None}
+use Rattle.std.proofs.Common.{◌≡◌, refl, sym, ap, ◌∙◌, List, [], ◌∷◌, ◌++◌, append_assoc}
 use Rattle.std.proofs.lemmas.List.{append-nil}
 use Rattle.ceu_tree.specs.declared.kernel.Kernel.{Kernel}
 use Rattle.ceu_tree.specs.declared.kernel.KNode.{KNode}
 use Rattle.ceu_tree.specs.Residual.{Act, Instances, no_instance}
 use Rattle.ceu_tree.specs.Focus.{Frame, OfBlock, OfOpen, OfLoop, Focus, Here, In, leaf}
-use Rattle.ceu_legal.specs.Shape.{Part, FrameFits, around_statement, around_end, around_instance, around_part, around_turn, around_call, around_branch, Around, nothing_around, one_around}
+use Rattle.ceu_legal.specs.Shape.{Part, around_statement, around_end, around_instance, around_part, around_turn, around_call, around_branch, Around, nothing_around, one_around}
 use Rattle.ceu_endings.specs.OneTrail.{PlainFrame, PlainFocus}
-use Rattle.ceu_trail.specs.Within.{Variable, in_frame, in_focus}
-use Rattle.ceu_steps.specs.Reached.{wrap, Reached, at_program, at_statement, at_end, in_part, in_turn}
+use Rattle.ceu_trail.specs.Within.{in_frame, in_focus}
+use Rattle.ceu_steps.specs.Reached.{wrap, Reached, at_statement, at_end, in_part, in_turn}
 use Rattle.ceu_steps.specs.Live.{vars_in}
 
 pub record Found (K : Kernel) (whole : Focus Act) (a : Act) (e : Part) : Type 0 where

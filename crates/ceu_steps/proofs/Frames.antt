@@ -1,5 +1,5 @@
 -- A focus inside frames: its leaf, what an outcome makes of it, its counters and its place in the code.
-use Rattle.std.proofs.Common.{◌≡◌, refl, sym, ap, ◌∙◌, subst, ℕ, ◌+◌, ℤ, Bool, true, false, List, [], ◌∷◌, ◌++◌, Option, Some, None}
+use Rattle.std.proofs.Common.{◌≡◌, refl, ap, ◌∙◌, ℕ, true, List, [], ◌∷◌}
 use Rattle.ceu_base.specs.declared.kinds.Fault.{Fault}
 use Rattle.ceu_base.specs.declared.kinds.Pos.{Pos}
 use Rattle.ceu_code.specs.declared.image.Image.{Image}
@@ -7,11 +7,11 @@ use Rattle.ceu_tree.specs.declared.kernel.Kernel.{Kernel}
 use Rattle.ceu_tree.specs.declared.kernel.KNode.{KNode}
 use Rattle.ceu_tree.specs.declared.kernel.KBlock.{KBlock}
 use Rattle.ceu_tree.specs.Residual.{Body, Program, Act, Residual, Over, no_instance}
-use Rattle.ceu_tree.specs.Focus.{Frame, OfBlock, OfInstance, OfOpen, OfLoop, OfCall, OfPar, Focus, Here, In, fill, plug, graft, leaf, body_of, body_in}
+use Rattle.ceu_tree.specs.Focus.{Frame, OfBlock, OfOpen, OfLoop, Focus, Here, In, fill, plug, graft, leaf, body_of, body_in}
 use Rattle.ceu_tree.specs.World.{World}
 use Rattle.ceu_tree.specs.Leaf as does
 use Rattle.ceu_tree.specs.Leaf.{Done, acted, next_of, rest_of}
-use Rattle.ceu_tree.specs.Around.{Outcome, Goes, Rests, Fails, Past, AtBlockEnd, AtLoopHead, Moved, moved, through, up, taken}
+use Rattle.ceu_tree.specs.Around.{Outcome, Goes, Rests, Fails, Past, Moved, moved, through, up, taken}
 use Rattle.ceu_tree.specs.Step.{does_in, stepped}
 use Rattle.ceu_legal.specs.Shape.{Part}
 use Rattle.ceu_shape.specs.Plans.{Plan}
@@ -47,7 +47,7 @@ pub up_here : (a : Act) (x : Outcome) (w : World) → up Program (Here a) x w �
 unfolding up
 up_here a x w = refl
 
-up_in : (fr : Frame) (f : Focus Act) (x : Outcome) (w : World) (m : Moved) → ((y : Body) → body_in fr y ≡ y) → up Program f x w ≡ m → up Program (In fr f) x w ≡ through Program fr f m.outcome m.world
+pub up_in : (fr : Frame) (f : Focus Act) (x : Outcome) (w : World) (m : Moved) → ((y : Body) → body_in fr y ≡ y) → up Program f x w ≡ m → up Program (In fr f) x w ≡ through Program fr f m.outcome m.world
 unfolding up
 up_in fr f x w m same e = ap (λ (y : Body). let k = up y f x w in through Program fr f k.outcome k.world) (same Program) ∙ ap (λ (k : Moved). through Program fr f k.outcome k.world) e
 

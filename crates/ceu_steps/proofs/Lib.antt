@@ -23,3 +23,8 @@ pub mod Worlds
 pub mod Outs
 pub mod Finds
 pub mod Knot
+pub mod Rests
+pub mod Awaits
+pub mod Finishes
+pub mod Ends
+pub mod Times

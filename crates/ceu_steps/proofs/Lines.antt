@@ -1,5 +1,5 @@
 -- Lines that the trail does, one step each.
-use Rattle.std.proofs.Common.{◌≡◌, refl, sym, ap, ◌∙◌, subst, ◌<◌, ◌≤◌, ℕ, ◌+◌, Bool, true, false, List, [], ◌∷◌, ◌++◌, length, Option, Some, None, arith}
+use Rattle.std.proofs.Common.{◌≡◌, refl, ap, ◌∙◌, subst, ◌≤◌, ℕ, ◌+◌, Bool, true, false, List, [], length, Option, Some, None}
 use Rattle.std.specs.Prelude.{nat_le, if◌then◌else◌, option_and_then}
 use Rattle.std.proofs.lemmas.Bool.{leb-true}
 use Rattle.std.proofs.lemmas.List.{append-nil}
@@ -11,9 +11,9 @@ use Rattle.ceu_code.specs.Instructions.{size}
 use Rattle.ceu_isa.specs.declared.registers.Registers.{Registers}
 use Rattle.ceu_isa.specs.Layout.{slots_at}
 use Rattle.ceu_isa.specs.Fetching.{fetched, decoded, if_whole}
-use Rattle.ceu_isa.specs.Effects.{Effect, Goes}
+use Rattle.ceu_isa.specs.Effects.{Goes}
 use Rattle.ceu_isa.specs.Rows.{effect}
-use Rattle.ceu_isa.specs.Turns.{Machine, State, Trail, behind, changed, rewritten}
+use Rattle.ceu_isa.specs.Turns.{Machine, Trail, changed, rewritten}
 use Rattle.ceu_tree.specs.declared.kernel.Kernel.{Kernel}
 use Rattle.ceu_shape.specs.Plans.{Plan}
 use Rattle.ceu_trail.specs.Turning.{IsTrail}

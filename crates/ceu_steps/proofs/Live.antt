@@ -1,5 +1,5 @@
 -- The slots in use at a part lie within the frame and are pairwise disjoint.
-use Rattle.std.proofs.Common.{◌≡◌, ◌≢◌, refl, sym, ap, ◌∙◌, subst, ◌<◌, ◌≤◌, ◌⊎◌, inl, inr, ⊎_elim, ℕ, zero, suc, ◌+◌, Bool, true, false, List, [], ◌∷◌, ◌++◌, length, Contains, arith}
+use Rattle.std.proofs.Common.{◌≡◌, ◌≢◌, refl, sym, ap, ◌∙◌, subst, ◌≤◌, ◌⊎◌, inl, inr, ℕ, zero, suc, ◌+◌, Bool, List, [], ◌∷◌, ◌++◌, Contains, arith}
 use Rattle.std.proofs.lemmas.List.{append-nil}
 use Rattle.std.proofs.lemmas.List.Elements.{Contains-append_left, Contains-append_right, Contains-append_cases}
 use Rattle.ceu_base.specs.declared.kinds.Ty.{Ty}
@@ -12,19 +12,19 @@ use Rattle.ceu_tree.specs.declared.kernel.KLoop.{KLoop}
 use Rattle.ceu_tree.specs.declared.kernel.KLoop.TheVariants as turns
 use Rattle.ceu_tree.specs.declared.kernel.KNode.{KNode}
 use Rattle.ceu_tree.specs.declared.kernel.KBlock.{KBlock, out-KBlock}
-use Rattle.ceu_tree.specs.declared.kernel.KStmt.{out-KStmt, Loop}
+use Rattle.ceu_tree.specs.declared.kernel.KStmt.{out-KStmt}
 use Rattle.ceu_tree.specs.declared.kernel.KStmt.TheOpen.{KStmt-F}
 use Rattle.ceu_tree.specs.Needs.{ty_size}
 use Rattle.ceu_tree.specs.Numbering.{decl_slots, loop_slots, stmt_slots, block_slots}
 use Rattle.ceu_tree.specs.Proper.{Scope}
 use Rattle.ceu_tree.specs.Residual.{Counter, no_instance}
-use Rattle.ceu_tree.specs.Focus.{Frame, OfBlock, OfOpen, OfLoop}
-use Rattle.ceu_legal.specs.Shape.{Part, ABlock, AStatement, AnEnd, opens_part}
+use Rattle.ceu_tree.specs.Focus.{Frame, OfBlock, OfLoop}
+use Rattle.ceu_legal.specs.Shape.{Part, ABlock, AStatement}
 use Rattle.ceu_mem.specs.Memory.{size}
 use Rattle.ceu_slots.specs.Law.{StmtTogether, BlockTogether, Disjoint, DeclsSized, StmtSized, TurnsSized, declared_size, KeepsPlaces}
-use Rattle.ceu_trail.specs.Within.{Variable, declared, all_declared, turned, looped, in_frame}
+use Rattle.ceu_trail.specs.Within.{Variable, declared, all_declared, turned, looped}
 use Rattle.ceu_steps.specs.Reached.{Reached, at_program, at_statement, at_end, in_part, in_turn}
-use Rattle.ceu_steps.specs.Live.{slots_of, slots_in, vars_in, layer_slots, part_slots, PartTogether, PartSized, LayerSized, AllSized, Live}
+use Rattle.ceu_steps.specs.Live.{slots_in, vars_in, layer_slots, part_slots, PartTogether, PartSized, LayerSized, Live}
 use Rattle.ceu_steps.proofs.Together.{in_block_slots, declared_in_block, statement_together, declared_together, statement_sized, declared_sized, part_together, part_has, part_sized, loop_is, turn_together, hidden_together, turn_slots, turn_sized}
 
 pub in_none : {A : Type 0} {X : Type 0} (x : X) → Contains [] x → A
@@ -135,7 +135,7 @@ module _ (offset width frame : ℕ → ℕ) (total : ℕ) (K : Kernel) (keeps : 
           | inr x ↦ (
               let r = turned_variable k v sized.0 (subst (λ l. Contains (looped l) v) e x) in
               (r.0, Contains-append_left (layer_slots (out-KStmt s.stmt)) (slots_in outer) v.slot (subst (λ (l : List ℕ). Contains l v.slot) (sym own_is) r.1))
-            )
+              )
           | inl x ↦ (let r = h.live.variables v x in (r.0, Contains-append_right (layer_slots (out-KStmt s.stmt)) (slots_in outer) v.slot r.1))
         ];
       }

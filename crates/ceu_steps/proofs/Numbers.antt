@@ -1,5 +1,5 @@
 -- Numbers and values that were stored are read as they were.
-use Rattle.std.proofs.Common.{◌≡◌, ◌≢◌, refl, sym, ap, ◌∙◌, subst, ◌<◌, ◌≤◌, ◌≤ℤ◌, ◌<ℤ◌, ◌⊎◌, inl, inr, ℕ, zero, suc, ◌+◌, ◌-◌, ◌*◌, ◌/◌, ◌%◌, ◌^◌, ℤ, pos, negsuc, neg_ℤ, ◌-ℤ◌, Bool, true, false, List, length, arith}
+use Rattle.std.proofs.Common.{◌≡◌, ◌≢◌, refl, sym, ap, ◌∙◌, ◌<◌, ◌≤◌, ◌≤ℤ◌, ◌<ℤ◌, inl, ℕ, zero, suc, ◌+◌, ◌-◌, ◌*◌, ◌/◌, ◌%◌, ◌^◌, ℤ, pos, negsuc, neg_ℤ, ◌-ℤ◌, Bool, true, false, List, length, arith}
 use Rattle.std.specs.Prelude.{slice_index, slice_set, nat_lt, if◌then◌else◌}
 use Rattle.std.proofs.lemmas.Int.{ints}
 use Rattle.std.proofs.lemmas.Bool.{ltb-true, ltb-false}
@@ -11,8 +11,8 @@ use Rattle.ceu_base.specs.declared.kinds.Ty.TheVariants as ty
 use Rattle.ceu_base.specs.Values.{IsValue}
 use Rattle.ceu_code.specs.Instructions.{cell}
 use Rattle.ceu_mem.specs.Bytes.{number_at, with_number}
-use Rattle.ceu_mem.specs.Memory.{size, with_sign, value_at, with_value}
-use Rattle.ceu_mem.proofs.Views.{byte_outside, number_step, number_nothing, with_number_step, with_number_nothing}
+use Rattle.ceu_mem.specs.Memory.{size, with_sign}
+use Rattle.ceu_mem.proofs.Views.{byte_outside, number_step, number_nothing, with_number_step}
 
 mod_step : (b n : ℕ) → n % (256 * b) ≡ n % 256 + 256 * ((n / 256) % b)
 mod_step b n =

@@ -1,9 +1,7 @@
 -- An output, of a value or of none.
-use Rattle.std.proofs.Common.{◌≡◌, ◌≢◌, refl, sym, ap, ◌∙◌, subst, ◌<◌, ◌≤◌, ℕ, zero, suc, ◌+◌, ◌*◌, ℤ, pos, Bool, true, false, ◌&&◌, List, [], ◌∷◌, ◌++◌, Option, Some, None, Result, Ok, Err, arith}
-use Rattle.std.specs.Prelude.{slice_get, not, if◌then◌else◌}
+use Rattle.std.proofs.Common.{◌≡◌, ◌≢◌, refl, sym, ap, ◌∙◌, subst, ◌<◌, ℕ, zero, suc, ◌+◌, ℤ, pos, Bool, true, ◌&&◌, List, [], ◌∷◌, Option, Some, None, Ok, Err, arith}
+use Rattle.std.specs.Prelude.{slice_get, not}
 use Rattle.std.proofs.lemmas.Bool.{and_parts, false≢true}
-use Rattle.ceu_base.specs.declared.kinds.Fault.{Fault}
-use Rattle.ceu_base.specs.declared.kinds.Mark.{Mark}
 use Rattle.ceu_base.specs.declared.kinds.Mark.TheVariants.{Output}
 use Rattle.ceu_base.specs.declared.kinds.Port.{Port}
 use Rattle.ceu_base.specs.declared.kinds.Pos.{Pos}
@@ -13,12 +11,11 @@ use Rattle.ceu_base.specs.Values.{IsValue, is_value}
 use Rattle.ceu_code.specs.declared.image.Image.{Image}
 use Rattle.ceu_code.specs.declared.instr.Instr.TheVariants as instr
 use Rattle.ceu_code.specs.Instructions.{cell}
-use Rattle.ceu_asm.specs.declared.line.Line.{Line}
 use Rattle.ceu_mem.specs.Bytes.{number_at}
 use Rattle.ceu_isa.specs.declared.registers.Registers.{Registers}
 use Rattle.ceu_isa.specs.Layout.{cell_at}
 use Rattle.ceu_isa.specs.Fetching.{fetched}
-use Rattle.ceu_isa.specs.Effects.{Effect, Goes, provided, for_some}
+use Rattle.ceu_isa.specs.Effects.{Goes, provided, for_some}
 use Rattle.ceu_isa.specs.Cells.{Popped, popped, popped_unless_none}
 use Rattle.ceu_isa.specs.Rows.{effect}
 use Rattle.ceu_isa.specs.Turns.{Machine, Trail, rewritten, changed}
@@ -29,15 +26,15 @@ use Rattle.ceu_results.proofs.Operators.{same_is}
 use Rattle.ceu_tree.specs.declared.kernel.Kernel.{Kernel}
 use Rattle.ceu_tree.specs.declared.kernel.KExp.{KExp}
 use Rattle.ceu_tree.specs.declared.kernel.KNode.{KNode}
-use Rattle.ceu_tree.specs.declared.kernel.KBlock.{KBlock, out-KBlock}
-use Rattle.ceu_tree.specs.declared.kernel.KStmt.{KStmt, out-KStmt, Out}
+use Rattle.ceu_tree.specs.declared.kernel.KBlock.{KBlock}
+use Rattle.ceu_tree.specs.declared.kernel.KStmt.{out-KStmt, Out}
 use Rattle.ceu_tree.specs.Depth.{stmt_depth, exp_depth}
-use Rattle.ceu_tree.specs.Expressions.{Answer, value_of, value_if}
+use Rattle.ceu_tree.specs.Expressions.{Answer, value_of}
 use Rattle.ceu_tree.specs.Leaf as does
 use Rattle.ceu_tree.specs.Leaf.{acted, or_fails}
 use Rattle.ceu_tree.specs.Proper.{Scope, reads, asks, gives, gives_if, port_ty, on_ty, outside_asyncs, stmt_ok}
-use Rattle.ceu_tree.specs.Residual.{Program, Act, Start, no_instance}
-use Rattle.ceu_tree.specs.Focus.{Frame, OfBlock, Focus, Here, In}
+use Rattle.ceu_tree.specs.Residual.{Program, Start, no_instance}
+use Rattle.ceu_tree.specs.Focus.{Frame, OfBlock, Here, In}
 use Rattle.ceu_tree.specs.Step.{stepped}
 use Rattle.ceu_tree.specs.Typing.{typed, holds_all, same_ty}
 use Rattle.ceu_tree.specs.World.{World, marked}
@@ -55,7 +52,7 @@ use Rattle.ceu_trail.specs.Coming.{Comes}
 use Rattle.ceu_trail.specs.Tables.{tables}
 use Rattle.ceu_within.proofs.Leaf.{given_value}
 use Rattle.ceu_steps.specs.Running.{Runs, trail_at}
-use Rattle.ceu_steps.specs.Ready.{Brings, Evaluated}
+use Rattle.ceu_steps.specs.Ready.{Evaluated}
 use Rattle.ceu_steps.specs.Premises.{BuiltLaws, LayerPlaced}
 use Rattle.ceu_steps.specs.Reached.{wrap}
 use Rattle.ceu_steps.specs.Live.{vars_in}
@@ -64,7 +61,7 @@ use Rattle.ceu_steps.proofs.Lines.{goto_runs}
 use Rattle.ceu_steps.proofs.Expressions.{expression_runs}
 use Rattle.ceu_steps.proofs.Unseen.{holds_unseen, unseen_numbers}
 use Rattle.ceu_steps.proofs.Worlds.{holds_fades, marked_fades}
-use Rattle.ceu_steps.proofs.Simple.{Passed, pass_comes}
+use Rattle.ceu_steps.proofs.Simple.{pass_comes}
 use Rattle.ceu_steps.proofs.Assigns.{front}
 use Rattle.ceu_steps.proofs.Turns.{AtStart, sizes_of, counts_stay, fault_comes, reached, among, some_gate, scene, fine, deep, cells, positions, is_ready}
 use denote.Hole.Carrier

@@ -1,25 +1,22 @@
 -- What the laws on the code say of a part that is reached.
-use Rattle.std.proofs.Common.{◌≡◌, refl, sym, ap, ◌∙◌, subst, ◌<◌, ◌≤◌, ℕ, zero, suc, ◌+◌, Bool, true, false, List, [], ◌∷◌, ◌++◌, append_assoc, Option, Some, None, arith}
+use Rattle.std.proofs.Common.{◌≡◌, refl, sym, ◌∙◌, ◌≤◌, ℕ, Bool, List, [], ◌∷◌, ◌++◌, append_assoc}
 use Rattle.ceu_code.specs.declared.image.Image.{Image}
 use Rattle.ceu_tree.specs.declared.kernel.Kernel.{Kernel}
 use Rattle.ceu_tree.specs.declared.kernel.KNode.{KNode}
 use Rattle.ceu_tree.specs.declared.kernel.KBlock.{KBlock, out-KBlock}
-use Rattle.ceu_tree.specs.declared.kernel.KStmt.{out-KStmt}
 use Rattle.ceu_tree.specs.Leaf.{next_of, rest_of}
 use Rattle.ceu_tree.specs.Legal.{finalizers_of}
 use Rattle.ceu_tree.specs.Proper.{Scope}
 use Rattle.ceu_tree.specs.Residual.{Act, AtEnd, no_instance}
-use Rattle.ceu_tree.specs.Focus.{Frame, OfBlock, OfOpen, OfLoop, Focus, Here, In, graft}
-use Rattle.ceu_legal.specs.Shape.{Part, ABlock, AStatement, AnEnd, FrameFits, around_statement, around_end, around_part, around_turn, Around, nothing_around, one_around, none_lives, program_part}
-use Rattle.ceu_shape.specs.Plans.{Plan, own_label, end_label}
-use Rattle.ceu_shape.specs.Searches.{node_of_block}
-use Rattle.ceu_single.specs.Single.{stmt_single, block_single}
-use Rattle.ceu_trail.specs.Built.{at_label, PartBuilt, BlockBuilt, StatementBuilt, ListBuilt}
+use Rattle.ceu_tree.specs.Focus.{Frame, OfBlock, OfOpen, OfLoop, Focus, Here, In}
+use Rattle.ceu_legal.specs.Shape.{Part, ABlock, FrameFits, around_statement, around_end, around_part, around_turn, Around, nothing_around, one_around, none_lives, program_part}
+use Rattle.ceu_shape.specs.Plans.{Plan, end_label}
+use Rattle.ceu_trail.specs.Built.{at_label, PartBuilt, ListBuilt}
 use Rattle.ceu_trail.specs.Compiled.{Compiled}
-use Rattle.ceu_trail.specs.Parts.{PartSingle, PartGates, PartStops, AmongBuilt, BlockOpens}
+use Rattle.ceu_trail.specs.Parts.{PartSingle, PartGates, PartStops, BlockOpens}
 use Rattle.ceu_trail.specs.Turning.{ActAt}
 use Rattle.ceu_steps.specs.Premises.{BuiltLaws}
-use Rattle.ceu_steps.specs.Reached.{wrap, is_whole, Reached, at_program, at_statement, at_end, in_part, in_turn}
+use Rattle.ceu_steps.specs.Reached.{is_whole, Reached, at_program, at_statement, at_end, in_part, in_turn}
 
 snoc : {K : Kernel} {f : Focus Act} {fr : Frame} {d e g : Part} → Around K 1 Act f d e → FrameFits K 1 fr e g → (x : Focus Act) × Around K 1 Act x d g
 snoc {fr = fr} nothing_around y = (In fr (Here AtEnd), one_around y nothing_around)

@@ -1,5 +1,5 @@
 -- What is seen from a part that is reached: the variables around it, each with a slot and a type of its own, and no alias.
-use Rattle.std.proofs.Common.{◌≡◌, ◌≢◌, refl, sym, ap, ◌∙◌, subst, ◌<◌, ◌≤◌, ◌⊎◌, inl, inr, ⊎_elim, ℕ, zero, suc, ◌+◌, Bool, true, false, ◌==◌, ◌&&◌, if◌then◌else◌, List, [], ◌∷◌, ◌++◌, length, Option, Some, None, Contains, arith, eqb-true}
+use Rattle.std.proofs.Common.{◌≡◌, ◌≢◌, refl, sym, ap, ◌∙◌, subst, ◌<◌, ◌≤◌, ◌⊎◌, inl, inr, ℕ, zero, suc, ◌+◌, Bool, true, false, ◌==◌, ◌&&◌, if◌then◌else◌, List, [], ◌∷◌, ◌++◌, length, Some, None, Contains, arith, eqb-true}
 use Rattle.std.proofs.lemmas.Bool.{and_parts, false≢true}
 use Rattle.std.proofs.lemmas.List.{append-nil}
 use Rattle.std.specs.List.{list_all}
@@ -8,7 +8,7 @@ use Rattle.std.proofs.lemmas.List.Elements.{Contains-append_cases}
 use Rattle.ceu_base.specs.declared.kinds.Ty.{Ty}
 use Rattle.ceu_base.specs.declared.kinds.Ty.TheVariants as ty
 use Rattle.ceu_tree.specs.declared.kernel.Kernel.{Kernel}
-use Rattle.ceu_tree.specs.declared.kernel.KArm.{KArm, out-KArm}
+use Rattle.ceu_tree.specs.declared.kernel.KArm.{KArm}
 use Rattle.ceu_tree.specs.declared.kernel.KDecl.{KDecl}
 use Rattle.ceu_tree.specs.declared.kernel.KKind.{KKind}
 use Rattle.ceu_tree.specs.declared.kernel.KKind.TheVariants as kind
@@ -22,13 +22,13 @@ use Rattle.ceu_tree.specs.Leaf.{Layer}
 use Rattle.ceu_tree.specs.Legal.{finalizers_of}
 use Rattle.ceu_tree.specs.Mentions.{all_set}
 use Rattle.ceu_tree.specs.Numbering.{counts_from, decl_slots, loop_slots, stmt_slots, stmt_nodes, block_slots, block_nodes}
-use Rattle.ceu_tree.specs.Proper.{Scope, Seen, SlotKind, IsLoopVariable, find, slot_kind, declared_seen, pool_slots, pools_seen, is_alias, outside_finalizers, decl_ok, stmt_ok, block_ok, is_proper}
+use Rattle.ceu_tree.specs.Proper.{Scope, Seen, IsLoopVariable, find, slot_kind, declared_seen, pool_slots, pools_seen, is_alias, outside_finalizers, decl_ok, block_ok, is_proper}
 use Rattle.ceu_tree.specs.Residual.{no_instance}
 use Rattle.ceu_tree.specs.Typing.{same_ty}
-use Rattle.ceu_tree.specs.Focus.{Frame, OfBlock, OfOpen, OfLoop}
+use Rattle.ceu_tree.specs.Focus.{Frame}
 use Rattle.ceu_legal.specs.Shape.{Part, ABlock, AStatement, AnEnd, block_scope, part_scope, turn_scope, opens_part, among_arms, around_statement, around_part, around_turn, none_lives}
 use Rattle.ceu_legal.proofs.Static.{names_of, BlockOk, StmtOk, nodes_fine, arms_fine, layer_fine, block_static, stmt_static, program_static}
-use Rattle.ceu_single.specs.Single.{stmt_single, block_single, is_variable_decl, is_variable}
+use Rattle.ceu_single.specs.Single.{block_single, is_variable_decl, is_variable}
 use Rattle.ceu_values.specs.Ground.{Ground, Numbered}
 use Rattle.ceu_values.proofs.Grounds.{list_ground, inner_ground, hidden_counts, part_ground, program_ground}
 use Rattle.ceu_trail.specs.Parts.{PartSingle}
@@ -100,7 +100,7 @@ plain_declared pools (d ∷ ds) seen slot h e = go (d.slot == slot) (plain_decla
     go true ih = plain_kind pools d.kind (and_parts (is_variable_decl d) (list_all is_variable_decl ds) h).0
     go false ih = ih
 
-block_plain : (b : KBlock) → block_single b ≡ true → list_all is_variable_decl (out-KBlock b).decls ≡ true
+pub block_plain : (b : KBlock) → block_single b ≡ true → list_all is_variable_decl (out-KBlock b).decls ≡ true
 unfolding block_single out-KBlock Carrier.out
 block_plain (KBlock' n ds k list) h = (and_parts (list_all is_variable_decl ds) _ h).0
 

@@ -1,6 +1,6 @@
 -- The variables that an expression reads are seen in the memory.
-use Rattle.std.proofs.Common.{◌≡◌, ◌≢◌, refl, sym, ap, ◌∙◌, subst, ◌<◌, ◌≤◌, ◌⊎◌, inl, inr, ℕ, ◌+◌, ◌*◌, ◌%◌, ◌^◌, ℤ, Bool, true, false, ◌&&◌, ◌||◌, List, [], ◌∷◌, length, Option, Some, None, is_some, Contains, arith}
-use Rattle.std.specs.Prelude.{slice_index, nat_le, not, if◌then◌else◌}
+use Rattle.std.proofs.Common.{◌≡◌, refl, sym, ap, ◌∙◌, subst, ◌≤◌, inr, ℕ, ◌+◌, ◌%◌, ◌^◌, Bool, true, false, ◌&&◌, ◌||◌, List, Option, Some, None, is_some, Contains, arith}
+use Rattle.std.specs.Prelude.{not, if◌then◌else◌}
 use Rattle.std.proofs.lemmas.Bool.{le-leb, and_parts, and_from, false≢true}
 use Rattle.ceu_base.specs.declared.kinds.Ty.{Ty}
 use Rattle.ceu_base.specs.declared.kinds.Ty.TheVariants as ty
@@ -9,7 +9,7 @@ use Rattle.ceu_code.specs.declared.image.Image.{Image}
 use Rattle.ceu_code.specs.Instructions.{cell}
 use Rattle.ceu_mem.specs.Bytes.{number_at}
 use Rattle.ceu_mem.specs.Memory.{size, value_at, with_sign}
-use Rattle.ceu_isa.specs.Layout.{gates_at, slots_at, end_of, in_slots}
+use Rattle.ceu_isa.specs.Layout.{slots_at, end_of, in_slots}
 use Rattle.ceu_tree.specs.declared.kernel.Kernel.{Kernel}
 use Rattle.ceu_tree.specs.declared.kernel.KExp.{KExp}
 use Rattle.ceu_tree.specs.declared.kernel.KExpNode as exp
@@ -20,20 +20,19 @@ use Rattle.ceu_tree.specs.Expressions.{number_in}
 use Rattle.ceu_tree.specs.Proper.{Scope, reads, asks, is_alias, find, outside_asyncs}
 use Rattle.ceu_tree.specs.Residual.{Body, Program}
 use Rattle.ceu_tree.specs.Focus.{Frame}
-use Rattle.ceu_tree.specs.Typing.{node_typed, operand_typed, operand_open, operand_ty, same_ty, typed}
+use Rattle.ceu_tree.specs.Typing.{node_typed, operand_typed, same_ty, typed}
 use Rattle.ceu_tree.specs.World.{World, Cell, Holds, NotSet, Names, look, place_of}
 use Rattle.ceu_shape.specs.Plans.{Plan}
 use Rattle.ceu_values.specs.Ground.{has}
 use Rattle.ceu_values.specs.Ready.{node_has, operand_has, exp_has}
 use Rattle.ceu_evaluates.specs.Does.{Kept}
-use Rattle.ceu_evaluates.specs.Seen.{address, VariableSeen, NodeSeen, OperandSeen, Visible, NodePlaced}
+use Rattle.ceu_evaluates.specs.Seen.{address, VariableSeen, NodeSeen, OperandSeen, NodePlaced}
 use Rattle.ceu_evaluates.proofs.Numbers.{number_agrees}
 use Rattle.ceu_trail.specs.Built.{number}
 use Rattle.ceu_trail.specs.Turning.{MemoryHolds}
 use Rattle.ceu_trail.specs.Within.{Variable, IsHeld, ValuesWithin}
 use Rattle.ceu_within.proofs.Widths.{variable}
-use Rattle.ceu_within.proofs.Scopes.{ScopeIn, read_in}
-use Rattle.ceu_within.proofs.Once.{Once}
+use Rattle.ceu_within.proofs.Scopes.{read_in}
 use Rattle.ceu_within.proofs.Leaf.{exp_reads}
 use Rattle.ceu_steps.specs.Live.{vars_in, slots_in, Live}
 use Rattle.ceu_steps.specs.Ready.{Ready}
@@ -105,6 +104,7 @@ module _ (image : Image) (P : Plan) (width : ℕ → ℕ) (K : Kernel) (slots_is
 
   mutual
     unfolding node_typed operand_typed node_has operand_has NodeSeen OperandSeen
+
     node_seen : (later : List ℕ) → Kept image 0 bytes later → (e : KExpNode) (t : Ty) → node_typed (reads K sc) (asks K sc) e t ≡ true → node_has Program w e ≡ true → NodeSeen image P.offset (slots_at image) Program w later e
     node_seen later kept (exp.Const v) t h s = tt
     node_seen later kept (exp.Read l) t h s = let may = (and_parts (same_ty l.ty t) (reads K sc l) h).1 in variable_seen l may (has_own l may s) later kept

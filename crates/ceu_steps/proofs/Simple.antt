@@ -1,20 +1,19 @@
 -- A statement that does nothing goes to its next one.
-use Rattle.std.proofs.Common.{◌≡◌, refl, sym, ap, ◌∙◌, subst, ◌≤◌, ℕ, ◌+◌, Bool, true, false, List, [], ◌∷◌, ◌++◌, arith}
+use Rattle.std.proofs.Common.{◌≡◌, refl, sym, subst, ◌≤◌, ℕ, Bool, List, [], ◌∷◌, ◌++◌, arith}
 use Rattle.ceu_base.specs.declared.kinds.Pos.{Pos}
 use Rattle.ceu_code.specs.declared.image.Image.{Image}
-use Rattle.ceu_isa.specs.declared.registers.Registers.{Registers}
 use Rattle.ceu_isa.specs.Turns.{Machine, Trail}
 use Rattle.ceu_tree.specs.declared.kernel.Kernel.{Kernel}
 use Rattle.ceu_tree.specs.declared.kernel.KNode.{KNode}
 use Rattle.ceu_tree.specs.declared.kernel.KBlock.{KBlock, out-KBlock}
-use Rattle.ceu_tree.specs.declared.kernel.KStmt.{KStmt, out-KStmt, Nothing}
+use Rattle.ceu_tree.specs.declared.kernel.KStmt.{out-KStmt, Nothing}
 use Rattle.ceu_tree.specs.Leaf as does
 use Rattle.ceu_tree.specs.Leaf.{acted, next_of, rest_of}
 use Rattle.ceu_tree.specs.Legal.{finalizers_of}
 use Rattle.ceu_tree.specs.Proper.{Scope}
 use Rattle.ceu_tree.specs.Residual.{Program, Act, Start, no_instance}
-use Rattle.ceu_tree.specs.Focus.{Frame, OfBlock, Focus, Here, In}
-use Rattle.ceu_tree.specs.Around.{Moved, moved, Goes}
+use Rattle.ceu_tree.specs.Focus.{Frame, OfBlock, Here, In}
+use Rattle.ceu_tree.specs.Around.{Moved}
 use Rattle.ceu_tree.specs.Step.{stepped}
 use Rattle.ceu_tree.specs.World.{World}
 use Rattle.ceu_legal.specs.Shape.{ABlock}
@@ -28,7 +27,7 @@ use Rattle.ceu_trail.specs.Turning.{MemoryHolds}
 use Rattle.ceu_trail.specs.Coming.{Comes, ComesOn, SameMarks}
 use Rattle.ceu_steps.specs.Running.{Runs, trail_at}
 use Rattle.ceu_steps.specs.Premises.{BuiltLaws}
-use Rattle.ceu_steps.specs.Reached.{wrap, is_whole, Reached, at_statement}
+use Rattle.ceu_steps.specs.Reached.{wrap, Reached, at_statement}
 use Rattle.ceu_steps.proofs.Frames.{AllCount, passes_is}
 use Rattle.ceu_steps.proofs.Lines.{goto_runs}
 use Rattle.ceu_steps.proofs.Places.{opens_of, behind_place}

@@ -1,7 +1,7 @@
 -- A value is stored in a variable: the memory holds what the reference semantics assigns, and all else stays.
-use Rattle.std.proofs.Common.{◌≡◌, ◌≢◌, refl, sym, ap, ◌∙◌, subst, ◌<◌, ◌≤◌, ◌⊎◌, inl, inr, ⊎_elim, ℕ, zero, suc, ◌+◌, ◌*◌, ◌%◌, ◌^◌, ℤ, Bool, true, false, ◌==◌, List, [], ◌∷◌, ◌++◌, length, Option, Some, None, Contains, arith, eqb-true, eq-eqb}
-use Rattle.std.specs.Prelude.{slice_index, nat_lt, nat_le, if◌then◌else◌, ◌&&◌}
-use Rattle.std.proofs.lemmas.Bool.{le-leb, leb-true, and_from, false≢true}
+use Rattle.std.proofs.Common.{◌≡◌, ◌≢◌, refl, sym, ap, ◌∙◌, subst, ◌<◌, ◌≤◌, ◌⊎◌, inl, inr, ⊎_elim, ℕ, ◌+◌, ◌*◌, ◌%◌, ◌^◌, ℤ, Bool, true, false, ◌==◌, List, [], ◌∷◌, length, Option, Some, None, Contains, arith, eqb-true, eq-eqb}
+use Rattle.std.specs.Prelude.{nat_lt, if◌then◌else◌}
+use Rattle.std.proofs.lemmas.Bool.{le-leb, and_from, false≢true}
 use Rattle.std.proofs.lemmas.List.Elements.{Contains-append_left, Contains-append_right, Contains-append_cases}
 use Rattle.ceu_base.specs.declared.kinds.Ty.{Ty}
 use Rattle.ceu_base.specs.declared.kinds.Ty.TheVariants as ty
@@ -12,11 +12,10 @@ use Rattle.ceu_code.specs.Instructions.{cell}
 use Rattle.ceu_mem.specs.Bytes.{number_at, with_number}
 use Rattle.ceu_mem.specs.Memory.{size, with_value}
 use Rattle.ceu_mem.proofs.Views.{length-with_number, number_outside}
-use Rattle.ceu_isa.specs.declared.registers.Registers.{Registers}
 use Rattle.ceu_isa.specs.Layout.{free, gates_at, slots_at, end_of, in_slots, gate_of, cell_at}
 use Rattle.ceu_isa.specs.Fetching.{fetched}
-use Rattle.ceu_isa.specs.Effects.{Effect, Goes, provided, for_some}
-use Rattle.ceu_isa.specs.Cells.{Popped, popped}
+use Rattle.ceu_isa.specs.Effects.{Goes, provided, for_some}
+use Rattle.ceu_isa.specs.Cells.{Popped}
 use Rattle.ceu_isa.specs.Rows.{effect}
 use Rattle.ceu_isa.specs.Turns.{Machine, Trail, rewritten}
 use Rattle.ceu_tree.specs.declared.kernel.Kernel.{Kernel}
@@ -28,20 +27,19 @@ use Rattle.ceu_tree.specs.declared.kernel.Loc.{Loc}
 use Rattle.ceu_tree.specs.Numbering.{loop_slots}
 use Rattle.ceu_tree.specs.Leaf.{Layer}
 use Rattle.ceu_tree.specs.Residual.{Body, Program, same_body, Counter, Free, Turns, Upward}
-use Rattle.ceu_tree.specs.Focus.{Frame, OfBlock, OfInstance, OfOpen, OfLoop, OfCall, OfPar}
-use Rattle.ceu_tree.specs.World.{World, Cell, Holds, NotSet, Names, Held, look, put, is_at, set, assign, place_of}
+use Rattle.ceu_tree.specs.Focus.{Frame, OfLoop}
+use Rattle.ceu_tree.specs.World.{World, Cell, Holds, NotSet, Names, Held, look, put, is_at, assign, place_of}
 use Rattle.ceu_shape.specs.Plans.{Plan}
-use Rattle.ceu_slots.specs.Law.{Disjoint, TurnsSized}
+use Rattle.ceu_slots.specs.Law.{TurnsSized}
 use Rattle.ceu_values.proofs.Stores.{same_self}
 use Rattle.ceu_evaluates.proofs.Steps.{pops}
-use Rattle.ceu_stands.specs.Tables.{Tables}
 use Rattle.ceu_stands.specs.Views as views
 use Rattle.ceu_stands.specs.Views.{View, view, slot_number, gate_seen, no_gate, Home}
 use Rattle.ceu_stands.specs.Values.{CellStands, ValuesStand}
 use Rattle.ceu_stands.specs.Parts.{TurnsStand, CounterStands}
 use Rattle.ceu_trail.specs.Tables.{tables}
 use Rattle.ceu_trail.specs.Turning.{home, FrameCounts, MemoryHolds}
-use Rattle.ceu_trail.specs.Within.{Variable, IsHeld, OneOf, ValuesWithin}
+use Rattle.ceu_trail.specs.Within.{OneOf, ValuesWithin}
 use Rattle.ceu_within.proofs.Looks.{put_either}
 use Rattle.ceu_steps.specs.Running.{Runs, trail_at}
 use Rattle.ceu_steps.specs.Live.{slots_of, slots_in, vars_in, layer_slots, LayerSized, FrameSized, AllSized, Live, hidden_loop, hidden_layer, hidden_of, hidden_in}
@@ -234,7 +232,7 @@ module _ (image : Image) (P : Plan) (width : ℕ → ℕ) (K : Kernel) (slots_is
         | inr z ↦ (
             let o = held.within body slot c z in
             still slot c (λ q. false≢true (sym e ∙ eq-eqb slot l.slot q)) (record { program = refl; variable = o.variable; there = o.there; slot_is = o.slot_is; is_held = o.is_held }) (holds.values.held body slot c z)
-          )
+            )
       ]
 
   -- the hidden slots of these frames are not the variable's

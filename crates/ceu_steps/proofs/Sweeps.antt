@@ -1,22 +1,19 @@
 -- Aborts where no gate is taken, and a fault, whose abort finds the gate of the trail itself.
-use Rattle.std.proofs.Common.{◌≡◌, ◌≢◌, refl, sym, ap, ◌∙◌, subst, ◌<◌, ◌≤◌, ◌⊎◌, inl, inr, ⊎_elim, ℕ, zero, suc, ◌+◌, ◌*◌, ◌^◌, Bool, true, false, List, [], ◌∷◌, length, Option, Some, None, arith}
-use Rattle.std.specs.Prelude.{slice_get, slice_index, nat_lt, nat_le, not, ◌==◌, if◌then◌else◌, ◌&&◌}
+use Rattle.std.proofs.Common.{◌≡◌, ◌≢◌, refl, sym, ap, ◌∙◌, subst, ◌<◌, ◌≤◌, inl, inr, ℕ, zero, suc, ◌+◌, ◌*◌, Bool, true, false, List, [], ◌∷◌, length, Some, arith}
+use Rattle.std.specs.Prelude.{slice_get, not, ◌==◌, if◌then◌else◌}
 use Rattle.std.proofs.lemmas.Bool.{lt-ltb, le-leb}
 use Rattle.ceu_base.specs.declared.kinds.Fault.{Fault}
 use Rattle.ceu_base.specs.declared.kinds.Pos.{Pos}
-use Rattle.ceu_base.specs.declared.kinds.Mark.{Mark}
 use Rattle.ceu_code.specs.declared.image.Image.{Image}
 use Rattle.ceu_code.specs.declared.instr.Instr.TheVariants as instr
-use Rattle.ceu_code.specs.declared.instr.Instr.{Instr}
 use Rattle.ceu_mem.specs.declared.gate.Gate.{Gate}
-use Rattle.ceu_mem.specs.Bytes.{number_at, with_number}
-use Rattle.ceu_mem.specs.Memory.{gate_at, with_gate, IsGate}
+use Rattle.ceu_mem.specs.Memory.{gate_at, with_gate}
 use Rattle.ceu_mem.proofs.Views.{length-with_number, number_outside, number_written}
 use Rattle.ceu_mem.proofs.Gates.{get_put_other, put_length}
 use Rattle.ceu_isa.specs.declared.registers.Registers.{Registers}
 use Rattle.ceu_isa.specs.Fetching.{fetched}
-use Rattle.ceu_isa.specs.Layout.{free, forever, finalizer, faulted, freed, is_taken, state_of, with_state, gates_at, end_of, gate_of, gate_put, gate_changed, gates_from}
-use Rattle.ceu_isa.specs.Effects.{Effect, After, GoesOn, Fails, Aborts, provided}
+use Rattle.ceu_isa.specs.Layout.{free, forever, finalizer, faulted, freed, is_taken, with_state, gates_at, end_of, gate_of, gate_put, gate_changed, gates_from}
+use Rattle.ceu_isa.specs.Effects.{GoesOn, Fails, Aborts, provided}
 use Rattle.ceu_isa.specs.Trails.{kept, gate_here}
 use Rattle.ceu_isa.specs.Order.{Choice, Nowhere, Unclear, Chosen, found, is_last, last_of}
 use Rattle.ceu_isa.specs.Rows.{effect}

@@ -1,13 +1,12 @@
 -- Steps of the machine one behind the other.
-use Rattle.std.proofs.Common.{◌≡◌, refl, sym, ap, ◌∙◌, subst, ◌<◌, ◌≤◌, ℕ, zero, suc, ◌+◌, Bool, true, false, List, [], ◌++◌, Option, Some, None, arith}
-use Rattle.ceu_base.specs.declared.kinds.Mark.{Mark}
+use Rattle.std.proofs.Common.{◌≡◌, refl, sym, ap, ◌∙◌, subst, ◌≤◌, ℕ, zero, suc, ◌+◌, Bool, true, false, Option, Some, arith}
 use Rattle.ceu_code.specs.declared.image.Image.{Image}
 use Rattle.ceu_code.specs.declared.instr.Instr.{Instr}
 use Rattle.ceu_isa.specs.declared.registers.Registers.{Registers}
 use Rattle.ceu_isa.specs.Fetching.{fetched}
-use Rattle.ceu_isa.specs.Effects.{Effect, Goes, Pauses, Finishes, Faults, Aborts, After}
+use Rattle.ceu_isa.specs.Effects.{Effect}
 use Rattle.ceu_isa.specs.Rows.{effect}
-use Rattle.ceu_isa.specs.Turns.{Machine, State, Stuck, Trail, Sweeping, Finalizer, Paused, Ended, Faulted, tick, ticks, is_on, changed, rewritten, behind, trail_does, trail_did}
+use Rattle.ceu_isa.specs.Turns.{Machine, State, Trail, tick, ticks, is_on, behind, trail_does, trail_did}
 use Rattle.ceu_steps.specs.Running.{Runs}
 
 resting : (image : Image) (n : ℕ) (s : State) → is_on s ≡ false → ticks image n s ≡ s

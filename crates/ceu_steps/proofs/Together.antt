@@ -1,16 +1,15 @@
 -- Slots of a part and those of the parts inside it.
-use Rattle.std.proofs.Common.{◌≡◌, ◌≢◌, refl, sym, ap, ◌∙◌, subst, ◌<◌, ◌≤◌, ◌⊎◌, inl, inr, ⊎_elim, ℕ, zero, suc, ◌+◌, Bool, true, false, List, [], ◌∷◌, ◌++◌, Contains, arith}
-use Rattle.std.proofs.lemmas.List.Elements.{Contains-append_left, Contains-append_right, Contains-append_cases}
-use Rattle.ceu_tree.specs.declared.kernel.KDecl.{KDecl}
+use Rattle.std.proofs.Common.{◌≡◌, refl, sym, ap, ◌∙◌, subst, ◌⊎◌, inl, inr, ℕ, List, [], ◌∷◌, ◌++◌, Contains}
+use Rattle.std.proofs.lemmas.List.Elements.{Contains-append_left, Contains-append_right}
 use Rattle.ceu_tree.specs.declared.kernel.KLoop.{KLoop}
 use Rattle.ceu_tree.specs.declared.kernel.KNode.{KNode}
-use Rattle.ceu_tree.specs.declared.kernel.KArm.{KArm, KArm', out-KArm}
+use Rattle.ceu_tree.specs.declared.kernel.KArm.{KArm', out-KArm}
 use Rattle.ceu_tree.specs.declared.kernel.KBlock.{KBlock, KBlock', out-KBlock, Row_of-KNode, end_of-KNode, more_of-KNode, items-the_row-KNode, items_shown-the_row-KNode-2}
 use Rattle.ceu_tree.specs.declared.kernel.KStmt.{KStmt, out-KStmt, Row_of-KArm, end_of-KArm, more_of-KArm, items-the_row-KArm, items_shown-the_row-KArm-0, Do, If', Loop}
 use Rattle.ceu_tree.specs.declared.kernel.KStmt.TheOpen.{KStmt-F}
-use Rattle.ceu_tree.specs.Numbering.{decl_slots, loop_slots, stmt_slots, block_slots, list_slots, arm_slots, arms_slots}
+use Rattle.ceu_tree.specs.Numbering.{decl_slots, loop_slots, stmt_slots, block_slots, arms_slots}
 use Rattle.ceu_legal.specs.Shape.{opens_part, among_arms}
-use Rattle.ceu_slots.specs.Law.{Beside, StmtTogether, BlockTogether, NodesTogether, ArmTogether, ArmsTogether, DeclsSized, StmtSized, BlockSized, NodesSized, ArmsSized, TurnsSized}
+use Rattle.ceu_slots.specs.Law.{StmtTogether, BlockTogether, NodesTogether, ArmsTogether, DeclsSized, StmtSized, BlockSized, NodesSized, ArmsSized, TurnsSized}
 use Rattle.ceu_values.proofs.Counts.{slots_all, block_slots_is}
 use denote.Hole.Carrier
 

@@ -1,9 +1,9 @@
 -- What is known of a turn whose leaf is a statement that begins.
-use Rattle.std.proofs.Common.{◌≡◌, refl, sym, ap, ◌∙◌, subst, ◌<◌, ◌≤◌, ℕ, ◌+◌, Bool, true, false, List, [], ◌∷◌, ◌++◌, Option, Some, None, Result, Ok, Err, arith}
+use Rattle.std.proofs.Common.{◌≡◌, refl, sym, ap, subst, ◌<◌, ◌≤◌, ℕ, Bool, true, List, [], ◌∷◌, ◌++◌, arith}
 use Rattle.ceu_base.specs.declared.kinds.Fault.{Fault}
 use Rattle.ceu_base.specs.declared.kinds.Pos.{Pos}
 use Rattle.ceu_code.specs.declared.image.Image.{Image}
-use Rattle.ceu_isa.specs.Turns.{Machine, State, Trail}
+use Rattle.ceu_isa.specs.Turns.{Machine, Trail}
 use Rattle.ceu_tree.specs.declared.kernel.Kernel.{Kernel}
 use Rattle.ceu_tree.specs.declared.kernel.KExp.{KExp}
 use Rattle.ceu_tree.specs.declared.kernel.KNode.{KNode}
@@ -15,9 +15,9 @@ use Rattle.ceu_tree.specs.Leaf.{acted}
 use Rattle.ceu_tree.specs.Legal.{finalizers_of}
 use Rattle.ceu_tree.specs.Numbering.{stmt_slots, stmt_nodes}
 use Rattle.ceu_tree.specs.Proper.{Scope, reads, asks}
-use Rattle.ceu_tree.specs.Residual.{Program, Act, Start, Over, no_instance}
-use Rattle.ceu_tree.specs.Focus.{Frame, OfBlock, Focus, Here, In}
-use Rattle.ceu_tree.specs.Around.{Moved, moved, Fails}
+use Rattle.ceu_tree.specs.Residual.{Program, Act, Start, no_instance}
+use Rattle.ceu_tree.specs.Focus.{Frame, OfBlock, Here}
+use Rattle.ceu_tree.specs.Around.{Moved}
 use Rattle.ceu_tree.specs.Step.{stepped}
 use Rattle.ceu_tree.specs.Typing.{typed}
 use Rattle.ceu_tree.specs.World.{World}
@@ -25,8 +25,7 @@ use Rattle.ceu_legal.specs.Shape.{Part, ABlock, AStatement, block_scope}
 use Rattle.ceu_legal.proofs.Static.{names_of, StmtOk}
 use Rattle.ceu_shape.specs.Plans.{Plan}
 use Rattle.ceu_shape.specs.Shape.{shape}
-use Rattle.ceu_slots.specs.Law.{KeepsPlaces}
-use Rattle.ceu_stands.specs.Views.{View, view}
+use Rattle.ceu_stands.specs.Views.{View}
 use Rattle.ceu_stands.specs.Tables.{Tables}
 use Rattle.ceu_values.specs.Ready.{layer_has, exp_has}
 use Rattle.ceu_evaluates.specs.Seen.{NodePlaced}
@@ -34,14 +33,13 @@ use Rattle.ceu_trail.specs.Built.{number}
 use Rattle.ceu_trail.specs.Compiled.{Compiled}
 use Rattle.ceu_trail.specs.Coming.{Comes}
 use Rattle.ceu_trail.specs.Parts.{PartSingle, AmongBuilt, GatesAt, StopsAt}
-use Rattle.ceu_trail.specs.Tables.{tables}
 use Rattle.ceu_trail.specs.Turning.{MemoryHolds}
 use Rattle.ceu_trail.specs.Within.{ValuesWithin}
-use Rattle.ceu_steps.specs.Running.{Runs, Unseen, trail_at}
+use Rattle.ceu_steps.specs.Running.{trail_at}
 use Rattle.ceu_steps.specs.Ready.{Ready, Breaks}
 use Rattle.ceu_steps.specs.Premises.{BuiltLaws, LayerPlaced}
-use Rattle.ceu_steps.specs.Reached.{wrap, filled, is_whole, Reached, at_statement}
-use Rattle.ceu_steps.specs.Live.{vars_in, slots_in, hidden_in, Live}
+use Rattle.ceu_steps.specs.Reached.{wrap, is_whole, Reached, at_statement}
+use Rattle.ceu_steps.specs.Live.{vars_in, Live}
 use Rattle.ceu_steps.proofs.Frames.{AllCount, fails_is}
 use Rattle.ceu_steps.proofs.Places.{built_of, gates_of, stops_of, opens_of}
 use Rattle.ceu_steps.proofs.Comes.{StandsIn, comes_to_fault}
@@ -49,7 +47,7 @@ use Rattle.ceu_steps.proofs.Deep.{below_of, some_cell}
 use Rattle.ceu_steps.proofs.Live.{lifted_of}
 use Rattle.ceu_steps.proofs.Scenes.{Scene, scene_of}
 use Rattle.ceu_steps.proofs.Seeing.{ready}
-use Rattle.ceu_steps.proofs.Unseen.{SameNumbers, frame_stays, unseen_numbers}
+use Rattle.ceu_steps.proofs.Unseen.{SameNumbers, frame_stays}
 
 -- ---- the image of a program
 

@@ -1,21 +1,19 @@
 -- Evaluation cells and the header's value are no part of what stands in the memory.
-use Rattle.std.proofs.Common.{◌≡◌, ◌≢◌, refl, sym, ap, ◌∙◌, subst, ◌<◌, ◌≤◌, ◌⊎◌, inl, inr, ⊎_elim, ℕ, zero, suc, ◌+◌, ◌*◌, ◌%◌, ◌^◌, ℤ, Bool, true, false, List, [], ◌∷◌, length, Option, Some, None, arith}
-use Rattle.std.specs.Prelude.{slice_index, nat_lt, nat_le, if◌then◌else◌, ◌&&◌}
+use Rattle.std.proofs.Common.{◌≡◌, refl, sym, ap, ◌∙◌, ◌≤◌, inl, inr, ⊎_elim, ℕ, ◌+◌, ◌*◌, Bool, true, false, List, arith}
+use Rattle.std.specs.Prelude.{nat_lt, nat_le, if◌then◌else◌, ◌&&◌}
 use Rattle.std.proofs.lemmas.Bool.{leb-true}
-use Rattle.ceu_base.specs.declared.kinds.Ty.{Ty}
 use Rattle.ceu_tree.specs.declared.kernel.Kernel.{Kernel}
 use Rattle.ceu_tree.specs.declared.kernel.KLoop.{KLoop}
 use Rattle.ceu_tree.specs.declared.kernel.KLoop.TheVariants as turns
 use Rattle.ceu_tree.specs.declared.kernel.KStmt.{out-KStmt}
 use Rattle.ceu_tree.specs.declared.kernel.KStmt.TheOpen.{KStmt-F}
 use Rattle.ceu_tree.specs.Leaf.{Layer}
-use Rattle.ceu_tree.specs.Residual.{Body, Program, Spawned, Counter, Free, Turns, Upward}
-use Rattle.ceu_tree.specs.Focus.{Frame, OfBlock, OfInstance, OfOpen, OfLoop, OfCall, OfPar, Focus, Here, In}
-use Rattle.ceu_tree.specs.World.{World, Cell, Holds, NotSet, Names, look, is_among}
+use Rattle.ceu_tree.specs.Residual.{Body, Program, Counter, Free, Turns, Upward}
+use Rattle.ceu_tree.specs.Focus.{Frame, OfLoop, Focus, Here, In}
+use Rattle.ceu_tree.specs.World.{World, Cell, Holds, NotSet, Names}
 use Rattle.ceu_code.specs.declared.image.Image.{Image}
-use Rattle.ceu_mem.specs.declared.gate.Gate.{Gate}
-use Rattle.ceu_mem.specs.Bytes.{number_at, with_number}
-use Rattle.ceu_isa.specs.Layout.{free, state_of, top_of, given_of, gates_at, slots_at, end_of, in_slots, gate_of, cell_at, scratch_at, with_scratch}
+use Rattle.ceu_mem.specs.Bytes.{number_at}
+use Rattle.ceu_isa.specs.Layout.{free, gates_at, slots_at, end_of, in_slots, gate_of, scratch_at, with_scratch}
 use Rattle.ceu_isa.specs.Safety.{Fits}
 use Rattle.ceu_mem.proofs.Views.{length-with_number, byte_outside}
 use Rattle.ceu_shape.specs.Plans.{Plan}
@@ -24,7 +22,7 @@ use Rattle.ceu_evaluates.proofs.Numbers.{number_agrees}
 use Rattle.ceu_stands.specs.Tables.{Tables}
 use Rattle.ceu_stands.specs.Views as views
 use Rattle.ceu_stands.specs.Views.{View, view, slot_number, gate_seen, no_gate, Home}
-use Rattle.ceu_stands.specs.Values.{AliasStands, CellStands, ValuesStand}
+use Rattle.ceu_stands.specs.Values.{CellStands, ValuesStand}
 use Rattle.ceu_stands.specs.Parts.{TurnsStand, CounterStands}
 use Rattle.ceu_stands.specs.Laws.{AreBytes}
 use Rattle.ceu_trail.specs.Tables.{tables}

@@ -1,5 +1,5 @@
 -- A world that holds no more than another stands where that one does.
-use Rattle.std.proofs.Common.{◌≡◌, refl, sym, ap, ◌∙◌, subst, ℕ, ◌+◌, ℤ, Bool, true, false, List, [], ◌∷◌, Option, Some, None}
+use Rattle.std.proofs.Common.{◌≡◌, refl, sym, ◌∙◌, subst, ℕ, ◌+◌, true, false, List, [], ◌∷◌, Some}
 use Rattle.ceu_base.specs.declared.kinds.Mark.{Mark}
 use Rattle.ceu_code.specs.declared.image.Image.{Image}
 use Rattle.ceu_tree.specs.declared.kernel.Kernel.{Kernel}
@@ -9,12 +9,10 @@ use Rattle.ceu_tree.specs.Residual.{Body, no_instance}
 use Rattle.ceu_tree.specs.World.{World, Cell, Holds, NotSet, Names, look, is_among, marked, forget, forget_declared}
 use Rattle.ceu_tree.specs.Abort.{closed, instances_aborted}
 use Rattle.ceu_shape.specs.Plans.{Plan}
-use Rattle.ceu_stands.specs.Tables.{Tables}
 use Rattle.ceu_stands.specs.Views.{View, view, Home}
-use Rattle.ceu_stands.specs.Values.{CellStands, ValuesStand}
-use Rattle.ceu_trail.specs.Tables.{tables}
+use Rattle.ceu_stands.specs.Values.{CellStands}
 use Rattle.ceu_trail.specs.Turning.{home, MemoryHolds}
-use Rattle.ceu_within.proofs.Looks.{forgotten, all_forgotten}
+use Rattle.ceu_within.proofs.Looks.{forgotten}
 
 -- u has at most the values of w, and all else that w has but marks
 pub record Fades (w u : World) : Type 0 where
