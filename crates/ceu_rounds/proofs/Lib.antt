@@ -1,0 +1,13 @@
+pub mod Asyncs
+pub mod Heads
+pub mod Loops
+pub mod Spots
+pub mod FreeLoops
+pub mod LoopEnds
+pub mod HiddenSlots
+pub mod Counting
+pub mod LoopSlots
+pub mod TimesLoops
+pub mod Rising
+pub mod Exits
+pub mod Leaving

@@ -1,0 +1,2 @@
+//! Programs of one trail: loops and exits, step by step.
+#![tactic(auto)]
