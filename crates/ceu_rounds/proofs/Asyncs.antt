@@ -1,14 +1,13 @@
 -- No statement of a program of one trail stands in an async.
-use Rattle.std.proofs.Common.{◌≡◌, refl, sym, ap, ◌∙◌, subst, ℕ, Bool, true, false, ◌||◌, ◌&&◌, List, []}
+use Rattle.std.proofs.Common.{◌≡◌, refl, ap, ◌∙◌, ℕ, Bool, true, false, ◌||◌}
 use Rattle.std.proofs.lemmas.Bool.{and_parts, false≢true}
 use Rattle.ceu_tree.specs.declared.kernel.Kernel.{Kernel}
-use Rattle.ceu_tree.specs.declared.kernel.KCode.{KCode}
-use Rattle.ceu_tree.specs.declared.kernel.KArm.{KArm, KArm'}
+use Rattle.ceu_tree.specs.declared.kernel.KArm.{KArm'}
 use Rattle.ceu_tree.specs.declared.kernel.KBlock.{KBlock, KBlock', Row_of-KNode, end_of-KNode, more_of-KNode}
 use Rattle.ceu_tree.specs.declared.kernel.KStmt.{KStmt, Row_of-KArm, end_of-KArm, more_of-KArm, Nothing, Assign, Out, AwaitIn, AwaitTime, Forever, Do, Escape, Break, Continue, If', Loop}
 use Rattle.ceu_shape.specs.Searches.{stmt_async, block_async, arm_async, nodes_async, arms_async, codes_async, stands_in_async}
-use Rattle.ceu_single.specs.Single.{stmt_single, block_single, arm_single, nodes_single, arms_single, is_variable_decl, Single}
-use Rattle.ceu_trail.proofs.Singles.{no_code, body_single, last_holds, first_holds}
+use Rattle.ceu_single.specs.Single.{stmt_single, block_single, arm_single, nodes_single, arms_single, Single}
+use Rattle.ceu_trail.proofs.Singles.{no_code, body_single, last_holds}
 
 neither : (a b : Bool) → a ≡ false → b ≡ false → (a || b) ≡ false
 neither a b p q = ap (λ (x : Bool). x || b) p ∙ q
@@ -16,6 +15,7 @@ neither a b p q = ap (λ (x : Bool). x || b) p ∙ q
 module _ (node : ℕ) where
   mutual
     unfolding stmt_async block_async arm_async nodes_async arms_async stmt_single block_single arm_single nodes_single arms_single
+
     stmt_outside : (s : KStmt) → stmt_single s ≡ true → stmt_async node false s ≡ false
     stmt_outside Nothing h = refl
     stmt_outside (Assign l e) h = refl

@@ -1,22 +1,21 @@
 -- Instructions of a loop with a bound: a constant goes on a cell, and one more turn is counted.
-use Rattle.std.proofs.Common.{◌≡◌, ◌≢◌, refl, sym, ap, ◌∙◌, subst, ◌<◌, ◌≤◌, inl, inr, ℕ, ◌+◌, ◌*◌, ◌%◌, ◌^◌, ℤ, pos, Bool, true, false, ◌==◌, ◌&&◌, List, [], ◌∷◌, ◌++◌, Option, Some, None, Contains, arith, eqb-true, eq-eqb}
+use Rattle.std.proofs.Common.{◌≡◌, ◌≢◌, refl, ap, ◌∙◌, ◌<◌, ◌≤◌, inl, inr, ℕ, ◌+◌, ◌^◌, ℤ, Bool, true, false, ◌==◌, List, [], Option, Some, arith}
 use Rattle.std.specs.Prelude.{slice_get, nat_lt, if◌then◌else◌}
-use Rattle.std.proofs.lemmas.Bool.{le-leb, lt-ltb, ltb-true, ltb-false, and_from, and_parts, false≢true}
+use Rattle.std.proofs.lemmas.Bool.{le-leb, lt-ltb, ltb-true, ltb-false, and_from}
 use Rattle.ceu_base.specs.declared.kinds.Fault.TheVariants.{LoopLimit}
 use Rattle.ceu_base.specs.declared.kinds.Pos.{Pos}
-use Rattle.ceu_base.specs.declared.kinds.Ty.TheVariants as ty
 use Rattle.ceu_code.specs.declared.image.Image.{Image}
 use Rattle.ceu_code.specs.declared.instr.Instr.TheVariants as instr
 use Rattle.ceu_code.specs.Instructions.{cell}
 use Rattle.ceu_mem.specs.Bytes.{number_at, with_number}
 use Rattle.ceu_mem.proofs.Views.{length-with_number, byte_outside, number_written}
-use Rattle.ceu_isa.specs.Layout.{cell_at, gates_at, slots_at, end_of, in_slots}
+use Rattle.ceu_isa.specs.Layout.{cell_at, slots_at, end_of, in_slots}
 use Rattle.ceu_isa.specs.Fetching.{fetched}
 use Rattle.ceu_isa.specs.Safety.{Fits}
 use Rattle.ceu_isa.specs.Effects.{Effect, Goes, Faults, provided, for_some}
 use Rattle.ceu_isa.specs.Rows.{effect}
 use Rattle.ceu_isa.specs.Cells.{pushed}
-use Rattle.ceu_isa.specs.Turns.{Machine, State, Trail, rewritten, failing}
+use Rattle.ceu_isa.specs.Turns.{Machine, Trail, rewritten, failing}
 use Rattle.ceu_fetch.proofs.Constants.{cell_small}
 use Rattle.ceu_stands.specs.Laws.{AreBytes}
 use Rattle.ceu_steps.specs.Running.{Runs, Unseen, trail_at}

@@ -1,5 +1,5 @@
 -- Where an exit arrives: at the loop or the do that it leaves, or at the body of the program, with all parts inside that hand it on.
-use Rattle.std.proofs.Common.{◌≡◌, ◌≢◌, refl, sym, ap, ◌∙◌, subst, ◌<◌, ◌≤◌, ◌⊎◌, inl, inr, ℕ, suc, ◌+◌, Bool, true, false, ◌==◌, List, [], ◌∷◌, ◌++◌, Option, Some, None, arith, eqb-true}
+use Rattle.std.proofs.Common.{◌≡◌, refl, sym, ap, ◌∙◌, subst, ◌<◌, ◌⊎◌, inl, inr, ℕ, Bool, true, false, ◌==◌, List, [], ◌∷◌, ◌++◌, Option, arith, eqb-true}
 use Rattle.ceu_base.specs.declared.kinds.Ty.TheVariants as ty
 use Rattle.ceu_code.specs.declared.image.Image.{Image}
 use Rattle.ceu_tree.specs.declared.kernel.Kernel.{Kernel}
@@ -12,11 +12,10 @@ use Rattle.ceu_tree.specs.declared.kernel.KStmt.TheOpen.{KStmt-F}
 use Rattle.ceu_tree.specs.Legal.{finalizers_of}
 use Rattle.ceu_tree.specs.Proper.{Scope, Aim, BodyAim, LoopAim, do_aim, is_proper}
 use Rattle.ceu_tree.specs.Residual.{Act, Counter, no_instance}
-use Rattle.ceu_tree.specs.Focus.{Frame, OfBlock, OfOpen, OfLoop, Focus, Here, In}
+use Rattle.ceu_tree.specs.Focus.{Frame, OfBlock, OfOpen, OfLoop, Focus, In}
 use Rattle.ceu_tree.specs.Leaf.{Layer, Exit}
 use Rattle.ceu_tree.specs.World.{World}
-use Rattle.ceu_legal.specs.Shape.{Part, ABlock, AStatement, AnEnd, FrameFits, around_statement, around_end, around_part, around_turn, none_lives, block_scope, part_scope, turn_scope, program_part, opens_part, counts}
-use Rattle.ceu_endings.specs.OneTrail.{PlainFrame}
+use Rattle.ceu_legal.specs.Shape.{Part, ABlock, AStatement, AnEnd, around_statement, around_part, around_turn, none_lives, part_scope, turn_scope, program_part, opens_part, counts}
 use Rattle.ceu_endings.proofs.Aims.{aims_at, Leads, Below, aims_node, leads_below, do_node, turns_aims}
 use Rattle.ceu_trail.specs.Parts.{PartSingle}
 use Rattle.ceu_within.proofs.Exits.{below, AimsLow, frame_aims}
@@ -26,7 +25,7 @@ use Rattle.ceu_steps.specs.Reached.{wrap, is_whole, Reached, at_program, at_stat
 use Rattle.ceu_steps.proofs.Frames.{AllCount}
 use Rattle.ceu_steps.proofs.Scenes.{scene_of}
 use Rattle.ceu_steps.proofs.Turns.{Standing}
-use Rattle.ceu_rounds.proofs.Rising.{Rising, rising_here, rising_block, rising_open, rising_loop}
+use Rattle.ceu_rounds.proofs.Rising.{Rising, rising_block, rising_open, rising_loop}
 
 as_below : (aims : List Aim) (k : ℕ) → below k aims → Below aims k
 as_below [] k h = tt

@@ -1,40 +1,40 @@
 -- A loop without a bound: it begins at its head, and there a turn begins.
-use Rattle.std.proofs.Common.{◌≡◌, refl, sym, ap, ◌∙◌, subst, ◌<◌, ◌≤◌, ℕ, ◌+◌, ◌*◌, Bool, true, false, List, [], ◌∷◌, ◌++◌, Option, Some, None, arith}
+use Rattle.std.proofs.Common.{◌≡◌, refl, sym, ◌∙◌, subst, ℕ, ◌+◌, ◌*◌, Bool, false, List, [], ◌∷◌, arith}
 use Rattle.ceu_base.specs.declared.kinds.Pos.{Pos}
 use Rattle.ceu_code.specs.declared.image.Image.{Image}
-use Rattle.ceu_isa.specs.Turns.{Machine, State, Trail}
+use Rattle.ceu_isa.specs.Turns.{Machine, Trail}
 use Rattle.ceu_tree.specs.declared.kernel.Kernel.{Kernel}
 use Rattle.ceu_tree.specs.declared.kernel.KLoop.TheVariants as turns
 use Rattle.ceu_tree.specs.declared.kernel.KNode.{KNode}
 use Rattle.ceu_tree.specs.declared.kernel.KBlock.{KBlock}
-use Rattle.ceu_tree.specs.declared.kernel.KStmt.{KStmt, out-KStmt, Loop}
+use Rattle.ceu_tree.specs.declared.kernel.KStmt.{out-KStmt, Loop}
 use Rattle.ceu_tree.specs.Leaf as does
 use Rattle.ceu_tree.specs.Leaf.{acted}
 use Rattle.ceu_tree.specs.Proper.{Scope}
 use Rattle.ceu_tree.specs.Residual.{Program, Act, Begin, Start, AtHead, Free, no_instance}
-use Rattle.ceu_tree.specs.Focus.{Frame, OfBlock, OfLoop, Focus, Here, In}
+use Rattle.ceu_tree.specs.Focus.{Frame, OfBlock, OfLoop, Here, In}
 use Rattle.ceu_tree.specs.Around.{Moved, moved, Goes, next_turn}
 use Rattle.ceu_tree.specs.World.{World}
 use Rattle.ceu_shape.specs.Plans.{Plan, own_label}
 use Rattle.ceu_shape.specs.Searches.{node_of_block}
 use Rattle.ceu_shape.specs.Shape.{expression_count}
 use Rattle.ceu_stands.specs.Views.{View, view}
-use Rattle.ceu_trail.specs.Built.{at_label, StatementBuilt}
+use Rattle.ceu_trail.specs.Built.{at_label}
 use Rattle.ceu_trail.specs.Compiled.{Compiled}
 use Rattle.ceu_trail.specs.Coming.{Comes, ComesOn}
 use Rattle.ceu_trail.specs.Tables.{tables}
 use Rattle.ceu_trail.specs.Turning.{FrameCounts}
 use Rattle.ceu_steps.specs.Running.{Runs, trail_at}
 use Rattle.ceu_steps.specs.Premises.{BuiltLaws}
-use Rattle.ceu_steps.specs.Reached.{wrap, is_whole}
+use Rattle.ceu_steps.specs.Reached.{wrap}
 use Rattle.ceu_steps.proofs.Ticks.{stay, onward}
 use Rattle.ceu_steps.proofs.Frames.{opens_is}
 use Rattle.ceu_steps.proofs.Lines.{goto_runs}
-use Rattle.ceu_steps.proofs.Comes.{StandsIn, comes_on, no_marks}
-use Rattle.ceu_steps.proofs.Turns.{Standing, AtStart, reached, among}
+use Rattle.ceu_steps.proofs.Comes.{comes_on, no_marks}
+use Rattle.ceu_steps.proofs.Turns.{AtStart, reached, among}
 use Rattle.ceu_rounds.proofs.Heads.{turn_goes}
-use Rattle.ceu_rounds.proofs.Loops.{RoundLines, FreeLines, free_lines}
-use Rattle.ceu_rounds.proofs.Spots.{StepDone, AtTurn, ToHead, inside, to_head, turn_heads}
+use Rattle.ceu_rounds.proofs.Loops.{free_lines}
+use Rattle.ceu_rounds.proofs.Spots.{StepDone, AtTurn, inside, to_head, turn_heads}
 use denote.Hole.Carrier
 
 module _ (laws : BuiltLaws) (image : Image) (P : Plan) (width : ℕ → ℕ) (K : Kernel) (compiled : Compiled image P width K) where

@@ -1,17 +1,17 @@
 -- What the head of a loop makes of a whole turn: its next turn, what is behind it, or a fault.
-use Rattle.std.proofs.Common.{◌≡◌, refl, sym, ap, ◌∙◌, subst, ℕ, Bool, true, false, List, [], ◌∷◌, Option, Some, None}
+use Rattle.std.proofs.Common.{◌≡◌, refl, ap, ◌∙◌, List, [], ◌∷◌}
 use Rattle.ceu_base.specs.declared.kinds.Fault.{Fault}
 use Rattle.ceu_base.specs.declared.kinds.Pos.{Pos}
 use Rattle.ceu_tree.specs.declared.kernel.Kernel.{Kernel}
 use Rattle.ceu_tree.specs.declared.kernel.KNode.{KNode}
 use Rattle.ceu_tree.specs.declared.kernel.KBlock.{KBlock}
 use Rattle.ceu_tree.specs.declared.kernel.KStmt.{out-KStmt}
-use Rattle.ceu_tree.specs.Residual.{Body, Program, Act, Counter, Residual, no_instance}
+use Rattle.ceu_tree.specs.Residual.{Program, Act, Counter, Residual, no_instance}
 use Rattle.ceu_tree.specs.Focus.{Frame, OfBlock, OfLoop, Focus, Here, In}
 use Rattle.ceu_tree.specs.World.{World}
 use Rattle.ceu_tree.specs.Leaf as does
 use Rattle.ceu_tree.specs.Leaf.{Done, acted, next_of, rest_of}
-use Rattle.ceu_tree.specs.Around.{Outcome, Goes, Fails, Past, AtLoopHead, Moved, moved, up, taken, next_turn}
+use Rattle.ceu_tree.specs.Around.{Goes, Fails, Past, AtLoopHead, Moved, moved, up, taken, next_turn}
 use Rattle.ceu_tree.specs.Step.{stepped}
 use Rattle.ceu_legal.specs.Shape.{Part}
 use Rattle.ceu_steps.specs.Reached.{wrap, filled, Reached}
@@ -43,4 +43,4 @@ pub turn_passes : {K : Kernel} {outer : List Frame} {d e : Part} (b : KBlock) (r
 turn_passes {K} {outer} b rest s c a w v around inside heads q =
     step_is a w (does.done does.Heads w) inside heads
     ∙ ap (λ (m : Moved). moved (taken (wrap (OfBlock b [] no_instance rest ∷ outer) (In (OfLoop s c) (Here a))) m.outcome) m.world)
-        (past_goes b rest (In (OfLoop s c) (Here a)) AtLoopHead w v around (head_is s c a w ∙ q))
+    (past_goes b rest (In (OfLoop s c) (Here a)) AtLoopHead w v around (head_is s c a w ∙ q))

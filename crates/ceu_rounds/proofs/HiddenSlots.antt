@@ -1,16 +1,15 @@
 -- A hidden slot of a loop is written: the variables and the other counters stay.
-use Rattle.std.proofs.Common.{◌≡◌, ◌≢◌, refl, sym, ap, ◌∙◌, subst, ◌<◌, ◌≤◌, ◌⊎◌, inl, inr, ⊎_elim, ℕ, ◌+◌, ◌*◌, ◌%◌, ◌^◌, ℤ, Bool, true, false, List, [], ◌∷◌, ◌++◌, Option, Some, None, Contains, arith}
+use Rattle.std.proofs.Common.{◌≡◌, ◌≢◌, refl, sym, ◌∙◌, subst, ◌≤◌, ◌⊎◌, inl, inr, ⊎_elim, ℕ, ◌+◌, ◌%◌, ◌^◌, List, Contains, arith}
 use Rattle.ceu_code.specs.declared.image.Image.{Image}
-use Rattle.ceu_code.specs.Instructions.{cell}
 use Rattle.ceu_mem.specs.Bytes.{with_number}
 use Rattle.ceu_isa.specs.Layout.{slots_at, end_of}
 use Rattle.ceu_tree.specs.declared.kernel.Kernel.{Kernel}
-use Rattle.ceu_tree.specs.Residual.{Body, Program}
+use Rattle.ceu_tree.specs.Residual.{Body}
 use Rattle.ceu_tree.specs.Focus.{Frame}
-use Rattle.ceu_tree.specs.World.{World, Cell, Holds, NotSet, Names, look}
+use Rattle.ceu_tree.specs.World.{World, Cell, Holds, NotSet, Names}
 use Rattle.ceu_shape.specs.Plans.{Plan}
 use Rattle.ceu_stands.specs.Views.{view, slot_number}
-use Rattle.ceu_stands.specs.Values.{CellStands, ValuesStand}
+use Rattle.ceu_stands.specs.Values.{CellStands}
 use Rattle.ceu_trail.specs.Tables.{tables}
 use Rattle.ceu_trail.specs.Turning.{home, MemoryHolds}
 use Rattle.ceu_trail.specs.Within.{Variable, OneOf, ValuesWithin}

@@ -1,5 +1,5 @@
 -- A break, and a continue: the trail aborts the loop's gates, all of which are free, and goes behind the loop, or to its head.
-use Rattle.std.proofs.Common.{◌≡◌, refl, sym, ap, ◌∙◌, subst, ◌<◌, ◌≤◌, inl, inr, ℕ, ◌+◌, Bool, true, false, ◌==◌, List, [], ◌∷◌, ◌++◌, Option, Some, None, arith, eqb-true, eq-eqb}
+use Rattle.std.proofs.Common.{◌≡◌, refl, sym, ap, ◌∙◌, subst, ◌≤◌, inl, inr, ℕ, ◌+◌, Bool, true, ◌==◌, List, [], ◌∷◌, Some, None, arith, eqb-true, eq-eqb}
 use Rattle.std.proofs.lemmas.Bool.{and_parts}
 use Rattle.std.proofs.lemmas.List.{append-nil}
 use Rattle.std.specs.List.{list_any}
@@ -7,7 +7,7 @@ use Rattle.ceu_base.specs.declared.kinds.Pos.{Pos}
 use Rattle.ceu_code.specs.declared.image.Image.{Image}
 use Rattle.ceu_code.specs.declared.instr.Instr.TheVariants as instr
 use Rattle.ceu_isa.specs.Fetching.{fetched}
-use Rattle.ceu_isa.specs.Turns.{Machine, State, Trail}
+use Rattle.ceu_isa.specs.Turns.{Machine, Trail}
 use Rattle.ceu_tree.specs.declared.kernel.Kernel.{Kernel}
 use Rattle.ceu_tree.specs.declared.kernel.KLoop.{KLoop}
 use Rattle.ceu_tree.specs.declared.kernel.KNode.{KNode}
@@ -18,38 +18,37 @@ use Rattle.ceu_tree.specs.declared.kernel.KStmt.TheOpen.{KStmt-F}
 use Rattle.ceu_tree.specs.Abort.{aborted, forget_loop}
 use Rattle.ceu_tree.specs.Leaf as does
 use Rattle.ceu_tree.specs.Leaf.{Exit, Escape, Break, Continue, acted, next_of, rest_of}
-use Rattle.ceu_tree.specs.Numbering.{counts_from, stmt_nodes, block_nodes, stmt_slots}
-use Rattle.ceu_tree.specs.Proper.{Scope, Aim, LoopAim, is_loop_aim, stmt_ok}
+use Rattle.ceu_tree.specs.Numbering.{counts_from, stmt_nodes, stmt_slots}
+use Rattle.ceu_tree.specs.Proper.{Scope, is_loop_aim, stmt_ok}
 use Rattle.ceu_tree.specs.Residual.{Program, Act, Start, Again, Counter, Over, no_instance}
 use Rattle.ceu_tree.specs.Focus.{Frame, OfBlock, OfLoop, Focus, Here, In, plug}
-use Rattle.ceu_tree.specs.Around.{Outcome, Goes, Past, Leaves, Moved, moved, through, up, taken, loop_left}
+use Rattle.ceu_tree.specs.Around.{Goes, Past, Leaves, Moved, moved, through, up, taken, loop_left}
 use Rattle.ceu_tree.specs.Step.{stepped}
 use Rattle.ceu_tree.specs.World.{World}
-use Rattle.ceu_legal.specs.Shape.{Part, ABlock, AStatement, block_scope, turn_scope, counts}
+use Rattle.ceu_legal.specs.Shape.{Part, block_scope, counts}
 use Rattle.ceu_legal.proofs.Static.{names_of}
-use Rattle.ceu_endings.proofs.Aims.{aims_at, Leads, loop_leads}
+use Rattle.ceu_endings.proofs.Aims.{loop_leads}
 use Rattle.ceu_endings.proofs.Marks.{loop_marks}
 use Rattle.ceu_shape.specs.Plans.{Plan, own_label, end_label}
 use Rattle.ceu_shape.specs.Searches.{node_of_block}
-use Rattle.ceu_stands.specs.Tables.{Tables}
 use Rattle.ceu_stands.specs.Views.{view}
 use Rattle.ceu_trail.specs.Built.{at_label, StatementBuilt}
 use Rattle.ceu_trail.specs.Compiled.{Compiled}
-use Rattle.ceu_trail.specs.Coming.{Comes, ComesOn, SameMarks}
+use Rattle.ceu_trail.specs.Coming.{Comes, ComesOn}
 use Rattle.ceu_trail.specs.Tables.{tables}
 use Rattle.ceu_trail.specs.Turning.{turn_end, GoesRoundAt, MemoryHolds}
 use Rattle.ceu_values.specs.Ground.{Ground, Numbered}
 use Rattle.ceu_values.proofs.Counts.{block_nodes_is, stmt_nodes_is, inner_nodes, nodes_all}
 use Rattle.ceu_steps.specs.Running.{Runs, trail_at}
 use Rattle.ceu_steps.specs.Premises.{BuiltLaws}
-use Rattle.ceu_steps.specs.Reached.{wrap, is_whole, Reached, in_turn}
+use Rattle.ceu_steps.specs.Reached.{wrap, Reached}
 use Rattle.ceu_steps.proofs.Ticks.{onward}
 use Rattle.ceu_steps.proofs.Frames.{AllCount, up_goes, past_goes, step_is}
 use Rattle.ceu_steps.proofs.Lines.{goto_runs}
 use Rattle.ceu_steps.proofs.Sweeps.{abort_goes_on}
 use Rattle.ceu_steps.proofs.Expressions.{gates_free}
-use Rattle.ceu_steps.proofs.Comes.{StandsIn, comes_on}
-use Rattle.ceu_steps.proofs.Simple.{Passed, passed_on}
+use Rattle.ceu_steps.proofs.Comes.{comes_on}
+use Rattle.ceu_steps.proofs.Simple.{passed_on}
 use Rattle.ceu_steps.proofs.Turns.{Standing, AtStart, single_of, reached, among, gates, scene, fine}
 use Rattle.ceu_steps.proofs.Worlds.{holds_fades, fades_then}
 use Rattle.ceu_rounds.proofs.Spots.{StepDone}

@@ -1,5 +1,5 @@
 -- The body of a loop ends: its variables are gone, and the trail goes back to the head.
-use Rattle.std.proofs.Common.{◌≡◌, refl, sym, ap, ◌∙◌, subst, ◌<◌, ◌≤◌, ℕ, ◌+◌, Bool, true, false, List, [], ◌∷◌, ◌++◌, Option, Some, None, arith}
+use Rattle.std.proofs.Common.{◌≡◌, refl, sym, ap, ◌∙◌, subst, ℕ, Bool, true, false, List, [], ◌∷◌, ◌++◌, Some, arith}
 use Rattle.std.proofs.lemmas.List.{append-nil}
 use Rattle.ceu_base.specs.declared.kinds.Pos.{Pos}
 use Rattle.ceu_code.specs.declared.image.Image.{Image}
@@ -7,33 +7,31 @@ use Rattle.ceu_code.specs.declared.instr.Instr.TheVariants as instr
 use Rattle.ceu_asm.specs.declared.line.Line.{Line}
 use Rattle.ceu_fetch.specs.Placed.{Placed}
 use Rattle.ceu_isa.specs.Fetching.{fetched}
-use Rattle.ceu_isa.specs.Turns.{Machine, State, Trail}
+use Rattle.ceu_isa.specs.Turns.{Machine}
 use Rattle.ceu_tree.specs.declared.kernel.Kernel.{Kernel}
 use Rattle.ceu_tree.specs.declared.kernel.KLoop.{KLoop}
 use Rattle.ceu_tree.specs.declared.kernel.KNode.{KNode}
 use Rattle.ceu_tree.specs.declared.kernel.KBlock.{KBlock, out-KBlock}
-use Rattle.ceu_tree.specs.declared.kernel.KStmt.{KStmt, out-KStmt, Loop}
+use Rattle.ceu_tree.specs.declared.kernel.KStmt.{out-KStmt, Loop}
 use Rattle.ceu_tree.specs.Leaf as does
 use Rattle.ceu_tree.specs.Legal.{finalizers_of}
 use Rattle.ceu_tree.specs.Proper.{Scope}
-use Rattle.ceu_tree.specs.Residual.{Program, Act, AtEnd, Again, Counter, no_instance}
-use Rattle.ceu_tree.specs.Focus.{Frame, OfBlock, OfLoop, Focus, Here, In}
+use Rattle.ceu_tree.specs.Residual.{Program, AtEnd, Again, Counter, no_instance}
+use Rattle.ceu_tree.specs.Focus.{Frame, OfBlock, OfLoop, Here, In}
 use Rattle.ceu_tree.specs.Around.{Moved, moved, Goes, AtBlockEnd, up, taken}
 use Rattle.ceu_tree.specs.Abort.{closed, instances_aborted}
-use Rattle.ceu_tree.specs.Step.{stepped}
 use Rattle.ceu_tree.specs.World.{World}
 use Rattle.ceu_legal.specs.Shape.{counts}
 use Rattle.ceu_shape.specs.Plans.{Plan, end_label}
 use Rattle.ceu_shape.specs.Words.{goto}
 use Rattle.ceu_shape.specs.Searches.{node_of_block}
-use Rattle.ceu_stands.specs.Views.{view}
-use Rattle.ceu_trail.specs.Built.{at_label, behind, ending, ListBuilt}
+use Rattle.ceu_trail.specs.Built.{at_label, ending, ListBuilt}
 use Rattle.ceu_trail.specs.Compiled.{Compiled}
-use Rattle.ceu_trail.specs.Coming.{Comes, ComesOn, SameMarks}
+use Rattle.ceu_trail.specs.Coming.{Comes, ComesOn}
 use Rattle.ceu_trail.specs.Turning.{ActAt}
-use Rattle.ceu_steps.specs.Running.{Runs, trail_at}
+use Rattle.ceu_steps.specs.Running.{trail_at}
 use Rattle.ceu_steps.specs.Premises.{BuiltLaws}
-use Rattle.ceu_steps.specs.Reached.{wrap, is_whole, Reached, at_end}
+use Rattle.ceu_steps.specs.Reached.{wrap, at_end}
 use Rattle.ceu_steps.proofs.Frames.{up_goes, step_is}
 use Rattle.ceu_steps.proofs.Lines.{goto_runs}
 use Rattle.ceu_steps.proofs.Places.{opens_of}
@@ -83,4 +81,4 @@ module _ (laws : BuiltLaws) (image : Image) (P : Plan) (width : ℕ → ℕ) (K 
         subst (λ (v : Moved). Comes image P width K w (trail_at image at 0) m v.outcome v.world)
         (sym (step_is AtEnd w (does.done does.Ends w) (at_end within pl) refl
         ∙ ap (λ (v : Moved). moved (taken (wrap frames (In (OfLoop this c) (In last (Here AtEnd)))) v.outcome) v.world)
-            (up_goes (In (OfLoop this c) (In last (Here AtEnd))) (In (OfLoop this c) (Here Again)) AtBlockEnd w (closed body [] no_instance Program w) around (ends_up this c body w)))) on
+        (up_goes (In (OfLoop this c) (In last (Here AtEnd))) (In (OfLoop this c) (Here Again)) AtBlockEnd w (closed body [] no_instance Program w) around (ends_up this c body w)))) on

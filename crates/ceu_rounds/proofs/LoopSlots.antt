@@ -1,5 +1,5 @@
 -- The hidden slots of a loop: they lie apart from all variables that are seen and from the slots of the loops around it.
-use Rattle.std.proofs.Common.{◌≡◌, ◌≢◌, refl, sym, ap, ◌∙◌, subst, ◌<◌, ◌≤◌, inl, inr, ℕ, zero, suc, ◌+◌, Bool, true, false, ◌==◌, List, [], ◌∷◌, ◌++◌, length, Contains, arith, eqb-true}
+use Rattle.std.proofs.Common.{◌≡◌, ◌≢◌, sym, subst, ◌≤◌, ℕ, zero, suc, ◌+◌, Bool, true, ◌==◌, List, [], ◌∷◌, Contains, arith, eqb-true}
 use Rattle.std.proofs.lemmas.Bool.{and_parts}
 use Rattle.std.proofs.lemmas.List.Elements.{Contains-append_left, Contains-append_right}
 use Rattle.ceu_base.specs.declared.kinds.Pos.{Pos}

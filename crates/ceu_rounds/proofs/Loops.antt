@@ -1,5 +1,5 @@
 -- The lines of a loop: how it begins, its head, and how its body goes back to the head.
-use Rattle.std.proofs.Common.{◌≡◌, refl, sym, ap, ◌∙◌, subst, ℕ, ◌+◌, ◌-◌, ◌*◌, pos, Bool, true, false, List, [], ◌∷◌, ◌++◌, Option, Some, None}
+use Rattle.std.proofs.Common.{◌≡◌, sym, subst, ℕ, ◌+◌, ◌-◌, ◌*◌, pos, Bool, true, false, List, [], ◌∷◌, ◌++◌, Some}
 use Rattle.std.proofs.lemmas.Bool.{false≢true}
 use Rattle.ceu_base.specs.declared.kinds.Pos.{Pos}
 use Rattle.ceu_base.specs.declared.kinds.Ty.TheVariants as ty
@@ -11,17 +11,15 @@ use Rattle.ceu_fetch.specs.Placed.{Placed}
 use Rattle.ceu_fetch.proofs.Lines.{parts_are_placed}
 use Rattle.ceu_tree.specs.declared.kernel.Kernel.{Kernel}
 use Rattle.ceu_tree.specs.declared.kernel.KExp.{KExp}
-use Rattle.ceu_tree.specs.declared.kernel.KLoop.{KLoop}
 use Rattle.ceu_tree.specs.declared.kernel.KLoop.TheVariants as turns
 use Rattle.ceu_tree.specs.declared.kernel.KBlock.{KBlock}
-use Rattle.ceu_tree.specs.declared.kernel.KNode.{KNode}
 use Rattle.ceu_tree.specs.declared.kernel.KStmt.{Loop}
 use Rattle.ceu_single.specs.Single.{Single}
 use Rattle.ceu_shape.specs.Plans.{Plan, own_label, end_label}
-use Rattle.ceu_shape.specs.Words.{mark, goto}
+use Rattle.ceu_shape.specs.Words.{goto}
 use Rattle.ceu_shape.specs.Flow.{turn_end, one_if}
 use Rattle.ceu_shape.specs.Searches.{node_of_block, stands_in_async}
-use Rattle.ceu_shape.specs.Shape.{expression_count, exp_part, turn_parts, to_end, block_draft, parts_draft}
+use Rattle.ceu_shape.specs.Shape.{expression_count, exp_part, parts_draft}
 use Rattle.ceu_trail.specs.Built.{at_label, number, StatementBuilt}
 use Rattle.ceu_rounds.proofs.Asyncs.{no_async}
 

@@ -1,15 +1,12 @@
 -- An exit inside the parts that hand it on: what is left there is gone, and nothing else changes.
-use Rattle.std.proofs.Common.{◌≡◌, ◌≢◌, refl, sym, ap, ◌∙◌, subst, ◌<◌, ◌≤◌, ◌⊎◌, inl, inr, ℕ, suc, ◌+◌, Bool, true, false, ◌==◌, List, [], ◌∷◌, ◌++◌, Option, Some, None, arith, eqb-true}
-use Rattle.ceu_base.specs.declared.kinds.Pos.{Pos}
-use Rattle.ceu_tree.specs.declared.kernel.Kernel.{Kernel}
-use Rattle.ceu_tree.specs.declared.kernel.KLoop.{KLoop}
+use Rattle.std.proofs.Common.{◌≡◌, refl, ap, ◌∙◌, ℕ, Bool, false, ◌==◌, List, []}
 use Rattle.ceu_tree.specs.declared.kernel.KLoop.TheVariants as turns
 use Rattle.ceu_tree.specs.declared.kernel.KNode.{KNode}
 use Rattle.ceu_tree.specs.declared.kernel.KBlock.{KBlock, out-KBlock}
 use Rattle.ceu_tree.specs.declared.kernel.KStmt as kernel
 use Rattle.ceu_tree.specs.declared.kernel.KStmt.{KStmt, out-KStmt}
 use Rattle.ceu_tree.specs.Residual.{Program, Act, Counter, Over, no_instance}
-use Rattle.ceu_tree.specs.Focus.{Frame, OfBlock, OfOpen, OfLoop, Focus, Here, In, plug}
+use Rattle.ceu_tree.specs.Focus.{OfBlock, OfOpen, OfLoop, Focus, Here, In, plug}
 use Rattle.ceu_tree.specs.Abort.{aborted, instances_aborted, forget_loop}
 use Rattle.ceu_tree.specs.Leaf.{Exit}
 use Rattle.ceu_tree.specs.Around.{Leaves, Moved, moved, through, up, body_left, open_left, loop_left}

@@ -1,24 +1,24 @@
 -- A turn whose leaf is at the head of a loop.
-use Rattle.std.proofs.Common.{◌≡◌, refl, sym, ap, ◌∙◌, subst, ◌<◌, ◌≤◌, ℕ, ◌+◌, ◌*◌, Bool, true, false, List, [], ◌∷◌, ◌++◌, Option, Some, None, arith}
+use Rattle.std.proofs.Common.{◌≡◌, refl, sym, subst, ℕ, ◌+◌, ◌*◌, Bool, true, List, [], ◌∷◌, Some, arith}
 use Rattle.ceu_base.specs.declared.kinds.Pos.{Pos}
 use Rattle.ceu_code.specs.declared.image.Image.{Image}
 use Rattle.ceu_code.specs.declared.instr.Instr.TheVariants as instr
 use Rattle.ceu_isa.specs.Fetching.{fetched}
-use Rattle.ceu_isa.specs.Turns.{Machine, State, Trail}
+use Rattle.ceu_isa.specs.Turns.{Machine, Trail}
 use Rattle.ceu_tree.specs.declared.kernel.Kernel.{Kernel}
 use Rattle.ceu_tree.specs.declared.kernel.KLoop.{KLoop}
 use Rattle.ceu_tree.specs.declared.kernel.KNode.{KNode}
 use Rattle.ceu_tree.specs.declared.kernel.KBlock.{KBlock}
-use Rattle.ceu_tree.specs.declared.kernel.KStmt.{KStmt, out-KStmt, Loop}
+use Rattle.ceu_tree.specs.declared.kernel.KStmt.{out-KStmt, Loop}
 use Rattle.ceu_tree.specs.declared.kernel.KStmt.TheOpen.{KStmt-F}
 use Rattle.ceu_tree.specs.Leaf as does
 use Rattle.ceu_tree.specs.Leaf.{acted}
 use Rattle.ceu_tree.specs.Proper.{Scope}
 use Rattle.ceu_tree.specs.Residual.{Program, Act, AtHead, Again, Counter, no_instance}
-use Rattle.ceu_tree.specs.Focus.{Frame, OfBlock, OfLoop, Focus, Here}
+use Rattle.ceu_tree.specs.Focus.{Frame, OfBlock, OfLoop, Here}
 use Rattle.ceu_tree.specs.Step.{stepped}
 use Rattle.ceu_tree.specs.World.{World}
-use Rattle.ceu_legal.specs.Shape.{ABlock, AStatement, block_scope, turn_scope, counts}
+use Rattle.ceu_legal.specs.Shape.{ABlock, block_scope, turn_scope, counts}
 use Rattle.ceu_endings.specs.Counted.{turns_counted}
 use Rattle.ceu_shape.specs.Plans.{Plan, end_label}
 use Rattle.ceu_shape.specs.Searches.{node_of_block}

@@ -1,7 +1,7 @@
 -- A loop with a bound: it begins with no turn begun, and at its head one more turn begins, or the program faults.
-use Rattle.std.proofs.Common.{◌≡◌, ◌≢◌, refl, sym, ap, ◌∙◌, subst, ◌<◌, ◌≤◌, ℕ, ◌+◌, ◌*◌, ◌%◌, ◌^◌, ℤ, pos, Bool, true, false, ◌==◌, List, [], ◌∷◌, ◌++◌, Option, Some, None, Contains, arith, eqb-true, eq-eqb}
+use Rattle.std.proofs.Common.{◌≡◌, ◌≢◌, refl, sym, ap, ◌∙◌, subst, ◌<◌, ◌≤◌, ℕ, ◌+◌, ◌*◌, ◌%◌, ◌^◌, pos, Bool, true, false, ◌==◌, List, [], ◌∷◌, Some, Contains, arith, eq-eqb}
 use Rattle.std.specs.Prelude.{slice_get, if◌then◌else◌}
-use Rattle.std.proofs.lemmas.Bool.{le-leb, ltb-true, and_from, and_parts, false≢true}
+use Rattle.std.proofs.lemmas.Bool.{le-leb, ltb-true, and_from, false≢true}
 use Rattle.ceu_base.specs.declared.kinds.Fault.TheVariants.{LoopLimit}
 use Rattle.ceu_base.specs.declared.kinds.Pos.{Pos}
 use Rattle.ceu_base.specs.declared.kinds.Ty.TheVariants as ty
@@ -9,50 +9,49 @@ use Rattle.ceu_code.specs.declared.image.Image.{Image}
 use Rattle.ceu_code.specs.Instructions.{cell}
 use Rattle.ceu_mem.specs.Bytes.{number_at, with_number}
 use Rattle.ceu_isa.specs.Layout.{cell_at, slots_at, end_of, in_slots}
-use Rattle.ceu_isa.specs.Turns.{Machine, State, Trail, rewritten}
+use Rattle.ceu_isa.specs.Turns.{Machine, Trail, rewritten}
 use Rattle.ceu_tree.specs.declared.kernel.Kernel.{Kernel}
 use Rattle.ceu_tree.specs.declared.kernel.KLoop.TheVariants as turns
 use Rattle.ceu_tree.specs.declared.kernel.KNode.{KNode}
 use Rattle.ceu_tree.specs.declared.kernel.KBlock.{KBlock}
-use Rattle.ceu_tree.specs.declared.kernel.KStmt.{KStmt, out-KStmt, Loop}
+use Rattle.ceu_tree.specs.declared.kernel.KStmt.{out-KStmt, Loop}
 use Rattle.ceu_tree.specs.Leaf as does
 use Rattle.ceu_tree.specs.Leaf.{acted}
 use Rattle.ceu_tree.specs.Proper.{Scope, loop_ok}
 use Rattle.ceu_tree.specs.Residual.{Program, Act, Begin, Start, AtHead, Turns, Over, Residual, no_instance}
 use Rattle.ceu_tree.specs.Residual as residual
-use Rattle.ceu_tree.specs.Focus.{Frame, OfBlock, OfLoop, Focus, Here, In}
+use Rattle.ceu_tree.specs.Focus.{Frame, OfBlock, OfLoop, Here, In}
 use Rattle.ceu_tree.specs.Around.{Moved, moved, Goes, Fails, next_turn}
 use Rattle.ceu_tree.specs.World.{World}
 use Rattle.ceu_legal.specs.Shape.{block_scope}
 use Rattle.ceu_shape.specs.Plans.{Plan, own_label}
 use Rattle.ceu_shape.specs.Searches.{node_of_block}
 use Rattle.ceu_shape.specs.Shape.{expression_count}
-use Rattle.ceu_stands.specs.Views.{View, view, slot_number}
+use Rattle.ceu_stands.specs.Views.{view, slot_number}
 use Rattle.ceu_trail.specs.Built.{at_label, number, StatementBuilt}
 use Rattle.ceu_trail.specs.Compiled.{Compiled}
 use Rattle.ceu_trail.specs.Coming.{Comes, ComesOn}
 use Rattle.ceu_trail.specs.Tables.{tables}
-use Rattle.ceu_trail.specs.Turning.{home, FrameCounts, MemoryHolds}
+use Rattle.ceu_trail.specs.Turning.{FrameCounts, MemoryHolds}
 use Rattle.ceu_trail.specs.Within.{ValuesWithin, looped}
 use Rattle.ceu_within.proofs.Widths.{wider}
 use Rattle.ceu_within.proofs.Leaf.{typed_static}
 use Rattle.ceu_steps.specs.Running.{Runs, trail_at}
 use Rattle.ceu_steps.specs.Premises.{BuiltLaws}
-use Rattle.ceu_steps.specs.Reached.{wrap, is_whole, filled}
+use Rattle.ceu_steps.specs.Reached.{wrap}
 use Rattle.ceu_steps.specs.Live.{vars_in}
-use Rattle.ceu_steps.proofs.Ticks as ticking
 use Rattle.ceu_steps.proofs.Ticks.{onward}
 use Rattle.ceu_steps.proofs.Frames.{AllCount, opens_is}
 use Rattle.ceu_steps.proofs.Lines.{goto_runs}
 use Rattle.ceu_steps.proofs.Expressions.{breaks_at}
-use Rattle.ceu_steps.proofs.Comes.{StandsIn, comes_on, comes_to_fault, no_marks}
+use Rattle.ceu_steps.proofs.Comes.{comes_on, comes_to_fault, no_marks}
 use Rattle.ceu_steps.proofs.Store.{store_runs}
 use Rattle.ceu_steps.proofs.Unseen.{holds_unseen, unseen_numbers}
 use Rattle.ceu_steps.proofs.Turns.{Standing, AtStart, sizes_of, counts_stay, reached, among, some_gate, fine, cells, positions}
 use Rattle.ceu_rounds.proofs.Heads.{turn_goes, turn_fails}
-use Rattle.ceu_rounds.proofs.Loops.{RoundLines, TimesLines, times_lines}
-use Rattle.ceu_rounds.proofs.Spots.{StepDone, AtTurn, ToHead, inside, to_head, turn_heads, loop_layer}
-use Rattle.ceu_rounds.proofs.HiddenSlots.{hidden_room, hidden_number, hidden_memory, hidden_counts_stay}
+use Rattle.ceu_rounds.proofs.Loops.{TimesLines, times_lines}
+use Rattle.ceu_rounds.proofs.Spots.{StepDone, AtTurn, inside, to_head, turn_heads}
+use Rattle.ceu_rounds.proofs.HiddenSlots.{hidden_number, hidden_memory, hidden_counts_stay}
 use Rattle.ceu_rounds.proofs.LoopSlots.{all_live, own_sized, frames_sized, mine, seen_apart, outer_apart}
 use Rattle.ceu_rounds.proofs.Counting.{one_more, push_runs, push_unseen, push_holds, limit_faults, limit_goes}
 use denote.Hole.Carrier
