@@ -1,0 +1,4 @@
+pub mod Many
+pub mod Arms
+pub mod Ends
+pub mod Knot
