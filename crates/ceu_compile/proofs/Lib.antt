@@ -3,3 +3,4 @@ mod Outcomes
 mod Parsing
 mod Resolving
 mod SizeCuts
+mod Proper

@@ -3,6 +3,7 @@ ghost use Rattle.std.specs.Prelude.{◌≡◌, ◌≤◌, Some, None, length, fa
 ghost use Rattle.ceu_bound.specs.PhaseB.{AreBounds};
 ghost use Rattle.ceu_compile.specs.Programs.{HasKernel, IsBroken, IsProgram, IsSound, IsTreeBroken};
 ghost use Rattle.ceu_tree.specs.Needs.{memory};
+ghost use Rattle.ceu_tree.specs.Proper.{Proper};
 
 use crate::errors::{CompileError, check_error};
 use crate::front::syntax_of;
@@ -26,6 +27,7 @@ pub struct Program {
 pub fn program_of(alloc: Global, text: &[u8]) -> Result<Program, CompileError>
     requires { length text.now ≤ 1048576 }
     ensures program { IfOk result (λ p. IsProgram text.now p.kernel) }
+    ensures proper { IfOk result (λ p. Proper p.kernel) }
     ensures sized { IfOk result (λ p. p.memory ≡ memory false p.kernel) }
     ensures bounded { IfOk result (λ p. AreBounds p.kernel p.bounds) }
     ensures refused { IfErr result (λ e. IsBroken text.now e) }
