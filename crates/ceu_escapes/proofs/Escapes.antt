@@ -70,7 +70,7 @@ escape_steps {outer = outer} m x w s0 at_leaf leaves b rest s g v around same e 
     ∙ ap (λ (f : Focus Act). let k = up Program f (Leaves m x) w in moved (taken f k.outcome) k.world) same
     ∙ ap (λ (k : Moved). moved (taken (wrap (OfOpen s ∷ OfBlock b [] no_instance rest ∷ outer) g) k.outcome) k.world) (past_goes b rest (In (OfOpen s) g) (Leaves m x) w v around e)
 
-target_is : (s : KNode) (l : Option Loc) (body : KBlock) → out-KStmt s.stmt ≡ KStmt-F.Do l body → target s ≡ l
+pub target_is : (s : KNode) (l : Option Loc) (body : KBlock) → out-KStmt s.stmt ≡ KStmt-F.Do l body → target s ≡ l
 target_is s l body e = ap target_of e
 
 module _ (laws : BuiltLaws) (image : Image) (P : Plan) (width : ℕ → ℕ) (K : Kernel) (compiled : Compiled image P width K) where
@@ -101,11 +101,11 @@ module _ (laws : BuiltLaws) (image : Image) (P : Plan) (width : ℕ → ℕ) (K 
   bare_lines n p left built = record { aborts = built.lines.1.0; goes = built.lines.1.1.0 }
 
   -- a do's target has a type
-  abbrev DoTyped : Scope → Layer → Type 0
+  abbrev pub DoTyped : Scope → Layer → Type 0
   DoTyped sc (KStmt-F.Do (Some l) c) = takes K sc l.ty l ≡ true
   DoTyped sc layer = Unit {0}
 
-  do_typed : (sc : Scope) (n : ℕ) (st : KStmt) → stmt_ok K (names_of K) sc n st ≡ true → DoTyped sc (out-KStmt st)
+  pub do_typed : (sc : Scope) (n : ℕ) (st : KStmt) → stmt_ok K (names_of K) sc n st ≡ true → DoTyped sc (out-KStmt st)
   unfolding stmt_ok out-KStmt Carrier.out
   do_typed sc n (kernel.Do (Some l) c) h = (and_parts (outside_finalizers sc.place) (takes K sc l.ty l) (and_parts (outside_finalizers sc.place && takes K sc l.ty l) (block_ok K (names_of K) (with_aim (do_aim K n (Some l)) sc) c) h).0).1
   do_typed sc n (kernel.Do None c) h = tt
