@@ -52,30 +52,30 @@ module _ (K : Kernel) where
   act_or a None = a
   act_or a (Some b) = b
 
-  pub chosen_in : (n : ℕ) (r : Residual) (f : Focus Act) → OneLeaf r → rest_within K r → choose Act (runs_at n) r ≡ Some f → ChosenIn K r f
+  pub chosen_in : (n top : ℕ) (r : Residual) (f : Focus Act) → OneLeaf top r → rest_within K r → choose Act (runs_at n) r ≡ Some f → ChosenIn K r f
   unfolding OneLeaf rest_within in_rest choose choose_instance
-  chosen_in n (Block b fin all r rest) f p h e =
+  chosen_in n top (Block b fin all r rest) f p h e =
       let e' : under (OfBlock b fin all rest) (choose Act (runs_at n) r) ≡ Some f =
       subst (λ x. or_else (in_block b fin r rest (choose_instance Act (runs_at n) x)) (under (OfBlock b fin all rest) (choose Act (runs_at n) r)) ≡ Some f) p.1 e in
-      let a = under_frame (OfBlock b fin all rest) r f (choose Act (runs_at n) r) (λ g q. chosen_in n r g p.2 h q) tt e' in
+      let a = under_frame (OfBlock b fin all rest) r f (choose Act (runs_at n) r) (λ g q. chosen_in n top r g p.2 h q) tt e' in
       record { variables = sym a.0; counters = a.1; brought = a.2 }
-  chosen_in n (Open s r) f p h e =
-      let a = under_frame (OfOpen s) r f (choose Act (runs_at n) r) (λ g q. chosen_in n r g p h q) tt e in record { variables = sym a.0; counters = a.1; brought = a.2 }
-  chosen_in n (Loop s c r) f p h e =
-      let a = under_frame (OfLoop s c) r f (choose Act (runs_at n) r) (λ g q. chosen_in n r g p h.1 q) h.0 e in record { variables = sym a.0; counters = a.1; brought = a.2 }
-  chosen_in n (Run m a) f p h e = go (m == n) e
+  chosen_in n top (Open s r) f p h e =
+      let a = under_frame (OfOpen s) r f (choose Act (runs_at n) r) (λ g q. chosen_in n top r g p h q) tt e in record { variables = sym a.0; counters = a.1; brought = a.2 }
+  chosen_in n top (Loop s c r) f p h e =
+      let a = under_frame (OfLoop s c) r f (choose Act (runs_at n) r) (λ g q. chosen_in n top r g p h.1 q) h.0 e in record { variables = sym a.0; counters = a.1; brought = a.2 }
+  chosen_in n top (Run m a) f p h e = go (m == n) e
     where
       go : (b : Bool) → here (if b then Some a else None) ≡ Some f → ChosenIn K (Run m a) f
       go true k = here_chosen (Run m a) f (Some a) refl (λ c q. subst (act_brings K) (ap (act_or a) q) h) k
       go false k = absurd (none_focus f k)
-  chosen_in n (WaitInput k s) f p h e = absurd (none_focus f e)
-  chosen_in n (WaitTime d s) f p h e = absurd (none_focus f e)
-  chosen_in n (WaitEvent k s) f p h e = absurd p
-  chosen_in n (WaitForever s) f p h e = absurd (none_focus f e)
-  chosen_in n (InAsync s served r) f p h e = absurd p
-  chosen_in n (Call s r) f p h e = absurd p
-  chosen_in n (Par s bs) f p h e = absurd p
-  chosen_in n Over f p h e = absurd p
+  chosen_in n top (WaitInput k s) f p h e = absurd (none_focus f e)
+  chosen_in n top (WaitTime d s) f p h e = absurd (none_focus f e)
+  chosen_in n top (WaitEvent k s) f p h e = absurd p
+  chosen_in n top (WaitForever s) f p h e = absurd (none_focus f e)
+  chosen_in n top (InAsync s served r) f p h e = absurd p
+  chosen_in n top (Call s r) f p h e = absurd p
+  chosen_in n top (Par s bs) f p h e = absurd p
+  chosen_in n top Over f p h e = absurd p
 
   -- ---- a leaf that is woken
 
@@ -92,7 +92,7 @@ module _ (K : Kernel) where
     abbrev pub LeavesKept : Type 0
     LeavesKept = (d : Part) (r : Residual) → Fits K 0 d r → LeafKept (g r) r
 
-    pub leaves_kept : LeavesKept → (d : Part) (r : Residual) → Fits K 0 d r → OneLeaf r → LeafKept (each_leaf g r) r
+    pub leaves_kept : LeavesKept → (d : Part) (r : Residual) → Fits K 0 d r → OneLeaf 0 r → LeafKept (each_leaf g r) r
     unfolding OneLeaf rest_within in_rest each_leaf
     leaves_kept h d (Block b fin all r rest) (in_list {sc = sc} {s = s} done q z i more) p =
         let a = leaves_kept h (AStatement (block_scope sc b) s) r more p.2 in

@@ -22,7 +22,7 @@ step_within K f w proper single x h = let a = no_codes K single in stepped_withi
 pub chosen_within : ChosenWithin
 chosen_within K r w f proper single x h e =
     let a = no_codes K single in
-    let c = chosen_in K 0 r f (one_leaf K a.0 x a.1) h.counters e in
+    let c = chosen_in K 0 1 r f (one_leaf K a.0 x a.1) h.counters e in
     record { values = subst (λ l. ValuesWithin l w) (sym c.variables) h.values; counters = c.counters; brought = c.brought }
 
 kept_within : (K : Kernel) (r : Residual) (w : World) (g : Residual → Residual) → is_single K ≡ true → Fits K 0 (program_part K) r → LeavesKept K g → RestWithin K r w → RestWithin K (each_leaf g r) w
