@@ -1,6 +1,6 @@
 -- A trail that can run begins its turn: the machine chooses its gate, which is the first one, and its turn stands in the memory then.
-use Rattle.std.proofs.Common.{◌≡◌, ◌≢◌, refl, sym, ap, ◌∙◌, subst, ◌<◌, ◌≤◌, ◌⊎◌, inl, inr, ℕ, zero, suc, ◌+◌, ◌*◌, ◌%◌, ◌^◌, ℤ, Bool, true, false, ◌==◌, List, [], length, Option, Some, None, arith}
-use Rattle.std.specs.Prelude.{nat_lt, if◌then◌else◌, ◌&&◌}
+use Rattle.std.proofs.Common.{◌≡◌, refl, ap, ◌∙◌, subst, ◌<◌, ◌≤◌, ◌⊎◌, inl, ℕ, zero, suc, ◌+◌, ◌%◌, ◌^◌, ℤ, Bool, true, false, ◌==◌, List, Option, Some, None, arith}
+use Rattle.std.specs.Prelude.{if◌then◌else◌, ◌&&◌}
 use Rattle.std.proofs.lemmas.Bool.{lt-ltb}
 use Rattle.ceu_base.specs.declared.kinds.Ty.{Ty}
 use Rattle.ceu_code.specs.declared.image.Image.{Image}
@@ -10,28 +10,28 @@ use Rattle.ceu_mem.specs.Bytes.{number_at, with_number}
 use Rattle.ceu_mem.specs.Memory.{IsGate}
 use Rattle.ceu_mem.proofs.Views.{number_written, number_outside}
 use Rattle.ceu_isa.specs.declared.registers.Registers.{Registers}
-use Rattle.ceu_isa.specs.Layout.{state_of, top_of, given_of, reacting, slots_at, scratch_at, with_scratch, gate_of, gate_put, gate_changed, freed, free, can_run, on_input, on_time, on_event, forever, unserved, served, runs_at}
+use Rattle.ceu_isa.specs.Layout.{slots_at, scratch_at, gate_of, gate_put, freed, free, can_run, on_input, on_time, on_event, forever, runs_at}
 use Rattle.ceu_isa.specs.Order.{Nowhere, Chosen}
 use Rattle.ceu_isa.specs.Reactions.{first_at}
 use Rattle.ceu_isa.specs.Safety.{Fits}
-use Rattle.ceu_isa.specs.Turns.{Machine, State, Stuck, Trail, rewritten, chosen, begun}
+use Rattle.ceu_isa.specs.Turns.{Machine, Stuck, rewritten, chosen}
 use Rattle.ceu_tree.specs.declared.kernel.Kernel.{Kernel}
 use Rattle.ceu_tree.specs.declared.kernel.Loc.{Loc}
-use Rattle.ceu_tree.specs.declared.kernel.KBlock.{KBlock, out-KBlock}
+use Rattle.ceu_tree.specs.declared.kernel.KBlock.{out-KBlock}
 use Rattle.ceu_tree.specs.Leaf.{target}
 use Rattle.ceu_tree.specs.Residual.{Body, Program, Act, Begin, Start, Finish, AtEnd, AtHead, Again, Residual, Over, Run, WaitInput, WaitTime, WaitEvent, WaitForever, InAsync, Block, Open, Loop, Call, Par}
 use Rattle.ceu_tree.specs.Focus.{Frame, Focus, Here, In, leaf, choose}
 use Rattle.ceu_tree.specs.Wake as waking
-use Rattle.ceu_tree.specs.World.{World, Cell, Holds, NotSet, Names, look}
-use Rattle.ceu_tree.specs.Run.{Turning, Between}
-use Rattle.ceu_legal.specs.Shape.{Part, ABlock, AStatement, AnEnd, Around, nothing_around, one_around, ActFits, begins, heads, goes_again, starts, finishes, ends, TurnFits, program_part}
+use Rattle.ceu_tree.specs.World.{World, Cell, Holds, NotSet, Names}
+use Rattle.ceu_tree.specs.Run.{Between}
+use Rattle.ceu_legal.specs.Shape.{Part, ABlock, Around, nothing_around, one_around, ActFits, begins, heads, goes_again, starts, finishes, ends, TurnFits, program_part}
 use Rattle.ceu_shape.specs.Plans.{Plan, own_label}
 use Rattle.ceu_shape.specs.Searches.{node_of_block}
 use Rattle.ceu_stands.specs.Tables.{Tables}
-use Rattle.ceu_stands.specs.Views.{View, view, gate_seen, Free, Home, Keeps}
+use Rattle.ceu_stands.specs.Views.{view, Home}
 use Rattle.ceu_stands.specs.Leaves.{async_kind, if_taken, RunsGate, LeafGate}
 use Rattle.ceu_stands.specs.Laws.{AreBytes}
-use Rattle.ceu_stands.specs.Values.{CellStands, ValuesStand, MemoryStands, BetweenStands}
+use Rattle.ceu_stands.specs.Values.{CellStands, ValuesStand, BetweenStands}
 use Rattle.ceu_endings.proofs.Shapes.{one_leaf, no_codes}
 use Rattle.ceu_endings.specs.OneTrail.{OneLeaf}
 use Rattle.ceu_trail.specs.Built.{at_label}
@@ -39,7 +39,7 @@ use Rattle.ceu_trail.specs.Compiled.{Compiled}
 use Rattle.ceu_trail.specs.Parts.{PartSingle, PartStops}
 use Rattle.ceu_trail.specs.Tables.{tables}
 use Rattle.ceu_trail.specs.Within.{IsHeld, OneOf}
-use Rattle.ceu_trail.specs.Turning.{home, Counted, Brought, ActAt, ProgramAt, FocusAt, MemoryHolds, IsTrail, TurnStands}
+use Rattle.ceu_trail.specs.Turning.{home, Brought, ActAt, ProgramAt, FocusAt, MemoryHolds}
 use Rattle.ceu_trail.proofs.Plain.{blocks_are_plain}
 use Rattle.ceu_trail.proofs.Planned.{gates_are_first}
 use Rattle.ceu_trail.proofs.Stops.{stops_are_there}

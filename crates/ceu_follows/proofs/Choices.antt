@@ -1,9 +1,9 @@
 -- Which gate comes first where at most the first one passes a test.
-use Rattle.std.proofs.Common.{◌≡◌, refl, sym, ap, ◌∙◌, subst, ◌<◌, ◌≤◌, ℕ, zero, suc, ◌+◌, Bool, true, false, List, [], ◌∷◌, arith}
+use Rattle.std.proofs.Common.{◌≡◌, refl, ap, ◌∙◌, ◌<◌, ◌≤◌, ℕ, zero, suc, ◌+◌, Bool, true, false, List, [], ◌∷◌, arith}
 use Rattle.ceu_code.specs.declared.image.Image.{Image}
 use Rattle.ceu_mem.specs.declared.gate.Gate.{Gate}
 use Rattle.ceu_isa.specs.Layout.{gate_of, gates_from}
-use Rattle.ceu_isa.specs.Order.{Choice, Nowhere, Chosen, first_of, found}
+use Rattle.ceu_isa.specs.Order.{Nowhere, Chosen, first_of, found}
 
 module _ (image : Image) (bytes : List ℕ) (test : Gate → Bool) where
   by_test : (b : Bool) (from n : ℕ) → test (gate_of image bytes from) ≡ b

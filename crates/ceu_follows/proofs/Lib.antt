@@ -7,3 +7,12 @@ pub mod Memory
 pub mod Choices
 pub mod Numbers
 pub mod Beginning
+pub mod Headers
+pub mod Reacting
+pub mod Sweeps
+pub mod Waits
+pub mod Together
+pub mod Ready
+pub mod Commands
+pub mod Booting
+pub mod Runs

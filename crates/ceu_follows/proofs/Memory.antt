@@ -1,18 +1,18 @@
 -- The memory when a trail begins its turn: its gate is free then and the header has the gate's value; the rest is as it was. And what a gate that is put and a
 -- number that is written in the header leave as it was.
-use Rattle.std.proofs.Common.{◌≡◌, ◌≢◌, refl, sym, ap, ◌∙◌, subst, ◌<◌, ◌≤◌, ◌⊎◌, inl, inr, ⊎_elim, ℕ, zero, suc, ◌+◌, ◌*◌, ◌/◌, ◌%◌, ◌^◌, Bool, true, false, List, [], ◌∷◌, length, arith}
-use Rattle.std.specs.Prelude.{slice_index, slice_set, nat_lt, nat_le, if◌then◌else◌, ◌&&◌}
-use Rattle.std.proofs.lemmas.Bool.{cases_lt, lt-ltb, leb-true}
+use Rattle.std.proofs.Common.{◌≡◌, ◌≢◌, refl, sym, ap, ◌∙◌, subst, ◌<◌, ◌≤◌, inl, inr, ℕ, zero, suc, ◌+◌, ◌*◌, ◌/◌, ◌%◌, Bool, true, false, List, [], ◌∷◌, arith}
+use Rattle.std.specs.Prelude.{slice_set, nat_le, if◌then◌else◌, ◌&&◌}
+use Rattle.std.proofs.lemmas.Bool.{lt-ltb, leb-true}
 use Rattle.ceu_code.specs.declared.image.Image.{Image}
 use Rattle.ceu_mem.specs.declared.gate.Gate.{Gate}
 use Rattle.ceu_mem.specs.Bytes.{number_at, with_number}
-use Rattle.ceu_mem.specs.Memory.{gate_at, with_gate, IsGate}
-use Rattle.ceu_mem.proofs.Views.{length-with_number, byte_outside, number_outside, number_written, number_below, with_number_step, with_number_nothing}
-use Rattle.ceu_mem.proofs.Gates.{get_put_same, get_put_other, put_length, put_out, byte_elsewhere}
-use Rattle.ceu_isa.specs.Layout.{gates_at, slots_at, end_of, in_slots, gate_of, gate_put, gate_changed, freed, free, with_scratch, scratch_at}
+use Rattle.ceu_mem.specs.Memory.{with_gate, IsGate}
+use Rattle.ceu_mem.proofs.Views.{length-with_number, number_outside, with_number_step, with_number_nothing}
+use Rattle.ceu_mem.proofs.Gates.{get_put_same, get_put_other, put_length, put_out}
+use Rattle.ceu_isa.specs.Layout.{gates_at, slots_at, end_of, gate_of, gate_put, free}
 use Rattle.ceu_isa.specs.Safety.{Fits}
 use Rattle.ceu_stands.specs.Laws.{AreBytes}
-use Rattle.ceu_stands.specs.Views.{View, view, gate_seen, slot_number, no_gate, Free}
+use Rattle.ceu_stands.specs.Views.{view, gate_seen, slot_number, no_gate, Free}
 use Rattle.ceu_stands.proofs.Gates.{is_gate}
 
 -- ---- what is written are bytes

@@ -1,5 +1,5 @@
 -- A step of a reaction of a program of one trail keeps what holds of its configurations.
-use Rattle.std.proofs.Common.{◌≡◌, refl, sym, ap, ◌∙◌, subst, ℕ, zero, suc, true, false, Option, Some, None}
+use Rattle.std.proofs.Common.{◌≡◌, refl, sym, ap, ◌∙◌, subst, zero, suc, true, Option, Some, None}
 use Rattle.ceu_base.specs.declared.kinds.Pos.{Pos}
 use Rattle.ceu_base.specs.declared.kinds.Fault.{Fault}
 use Rattle.ceu_base.specs.declared.kinds.Mark.TheVariants as mark
@@ -11,7 +11,7 @@ use Rattle.ceu_tree.specs.Wake.{runs_at}
 use Rattle.ceu_tree.specs.Around.{Outcome, Goes, Rests, Raises, Fails, Past, Registers, AtBlockEnd, AtLoopHead, Ends, Leaves}
 use Rattle.ceu_tree.specs.Step.{stepped}
 use Rattle.ceu_tree.specs.Proper.{is_proper}
-use Rattle.ceu_tree.specs.Run.{Config, Turning, Between, Waiting, Ended, Faulted, config_of, unless_failed, chosen_at, next, world_of}
+use Rattle.ceu_tree.specs.Run.{Config, Turning, Between, Waiting, Ended, Faulted, config_of, chosen_at, next, world_of}
 use Rattle.ceu_legal.specs.Laws.{is_whole}
 use Rattle.ceu_legal.specs.Shape.{ConfigFits}
 use Rattle.ceu_legal.proofs.RunFits.{next_fits, step_whole}
@@ -21,11 +21,11 @@ use Rattle.ceu_endings.specs.Laws.{AtLevelZero}
 use Rattle.ceu_endings.proofs.Shapes.{no_codes}
 use Rattle.ceu_endings.proofs.CountedRuns as counters
 use Rattle.ceu_endings.proofs.Calm.{Good, next_good}
-use Rattle.ceu_trail.specs.Within.{TurnWithin, RestWithin}
+use Rattle.ceu_trail.specs.Within.{TurnWithin}
 use Rattle.ceu_within.specs.Laws.{OutcomeWithin}
 use Rattle.ceu_within.proofs.Whole.{step_within, chosen_within}
 use Rattle.ceu_follows.specs.Kept.{ConfigWithin, Kept}
-use Rattle.ceu_follows.proofs.Unharmed.{Clear, FailsClear, Unharmed, step_unharmed, aborted_quietly}
+use Rattle.ceu_follows.proofs.Unharmed.{FailsClear, Unharmed, step_unharmed, aborted_quietly}
 
 module _ (K : Kernel) (proper : is_proper K ≡ true) (single : is_single K ≡ true) where
   pub step_of : (f : Focus Act) (w : World) → ConfigFits K (Turning 0 f w) → Unharmed w (stepped K 0 Program f w)
@@ -121,3 +121,21 @@ module _ (K : Kernel) (proper : is_proper K ≡ true) (single : is_single K ≡ 
     within = next_within c h z;
     unfaulted = next_unfaulted c h z;
   }
+
+  -- ---- a turn begins, or the reaction is over
+
+  choice_is : (r : Residual) (w : World) (o : Option (Focus Act)) → choose Act (runs_at 0) r ≡ o → next K (Between 0 r w) ≡ chosen_at 0 o r w
+  unfolding next
+  choice_is r w o e = ap (λ (x : Option (Focus Act)). chosen_at 0 x r w) e
+
+  pub begins_next : (r : Residual) (w : World) (f : Focus Act) → choose Act (runs_at 0) r ≡ Some f → next K (Between 0 r w) ≡ Turning 0 f (marked (mark.Resume 0) w)
+  begins_next r w f e = choice_is r w (Some f) e
+
+  pub waits_next : (r : Residual) (w : World) → choose Act (runs_at 0) r ≡ None → next K (Between 0 r w) ≡ Waiting r w
+  waits_next r w e = choice_is r w None e
+
+  pub begins_kept : (r : Residual) (w : World) (f : Focus Act) → Kept K (Between 0 r w) → choose Act (runs_at 0) r ≡ Some f → Kept K (Turning 0 f (marked (mark.Resume 0) w))
+  begins_kept r w f h e = subst (Kept K) (begins_next r w f e) (next_kept (Between 0 r w) h refl)
+
+  pub waits_kept : (r : Residual) (w : World) → Kept K (Between 0 r w) → choose Act (runs_at 0) r ≡ None → Kept K (Waiting r w)
+  waits_kept r w h e = subst (Kept K) (waits_next r w e) (next_kept (Between 0 r w) h refl)

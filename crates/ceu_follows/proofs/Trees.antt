@@ -1,14 +1,12 @@
 -- Where a tree of one trail stands, its one leaf has the first gate and all others are free; which trail is chosen.
-use Rattle.std.proofs.Common.{◌≡◌, refl, sym, ap, ◌∙◌, subst, ℕ, zero, suc, ◌+◌, ◌<◌, ◌≤◌, Bool, true, false, if◌then◌else◌, ◌==◌, List, [], ◌∷◌, ◌++◌, append-nil, length, Option, Some, None, arith, ◌⊎◌, inl, inr, ⊎_elim}
+use Rattle.std.proofs.Common.{◌≡◌, refl, sym, ap, ◌∙◌, subst, ℕ, zero, suc, ◌+◌, ◌<◌, [], append-nil, length, Option, Some, None, arith, ⊎_elim}
 use Rattle.std.proofs.lemmas.Bool.{cases_lt}
 use Rattle.ceu_code.specs.declared.image.Image.{Image}
-use Rattle.ceu_isa.specs.Layout.{slots_at}
 use Rattle.ceu_tree.specs.declared.kernel.Kernel.{Kernel}
-use Rattle.ceu_tree.specs.declared.kernel.KNode.{KNode}
-use Rattle.ceu_tree.specs.declared.kernel.KBlock.{KBlock, out-KBlock}
+use Rattle.ceu_tree.specs.declared.kernel.KBlock.{out-KBlock}
 use Rattle.ceu_tree.specs.declared.kernel.KStmt.{out-KStmt}
-use Rattle.ceu_tree.specs.Residual.{Body, Program, Act, Residual, Over, Run, WaitInput, WaitTime, WaitEvent, WaitForever, InAsync, Block, Open, Loop, Call, Par, Instances, no_instance}
-use Rattle.ceu_tree.specs.Focus.{Frame, OfBlock, OfOpen, OfLoop, Focus, Here, In, leaf, here, under, or_else, in_block, fill, plug, choose, choose_instance}
+use Rattle.ceu_tree.specs.Residual.{Body, Program, Act, Residual, Run, WaitInput, WaitTime, WaitForever, Block, Open, Loop, Instances}
+use Rattle.ceu_tree.specs.Focus.{Frame, OfBlock, OfOpen, OfLoop, Focus, Here, In, leaf, under, or_else, in_block, choose, choose_instance}
 use Rattle.ceu_tree.specs.Wake.{runs_at}
 use Rattle.ceu_legal.specs.Shape.{Part, Fits, to_begin, to_turn, in_list, to_finish, at_input, at_time, at_event, at_forever, at_async, in_part, in_turn, in_call, in_par}
 use Rattle.ceu_stands.specs.Tables.{Tables}
@@ -16,7 +14,7 @@ use Rattle.ceu_stands.specs.Views.{View, Free, Home}
 use Rattle.ceu_stands.specs.Parts.{CounterStands, finalizers, pools_gates}
 use Rattle.ceu_stands.specs.Leaves.{LeafGate}
 use Rattle.ceu_stands.specs.Stands.{Stands}
-use Rattle.ceu_endings.specs.OneTrail.{OneLeaf, PlainFrame, PlainFocus}
+use Rattle.ceu_endings.specs.OneTrail.{OneLeaf}
 use Rattle.ceu_trail.specs.Parts.{PartSingle}
 use Rattle.ceu_trail.specs.Turning.{home, FrameCounts, Counted}
 use Rattle.ceu_trail.proofs.Plain.{blocks_are_plain}

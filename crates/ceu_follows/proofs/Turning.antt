@@ -1,27 +1,27 @@
 -- A turn of the machine comes to what that of the reference semantics comes to: by its steps, each of which is as it should be.
-use Rattle.std.proofs.Common.{◌≡◌, refl, sym, ap, ◌∙◌, subst, ℕ, zero, suc, ◌+◌, ◌*◌, ◌≤◌, true, false, List, ◌++◌, append_assoc, Option, Some, None, arith}
+use Rattle.std.proofs.Common.{◌≡◌, refl, sym, ap, ◌∙◌, subst, ℕ, zero, suc, ◌+◌, ◌*◌, ◌≤◌, true, false, List, ◌++◌, append_assoc, arith}
 use Rattle.ceu_code.specs.declared.image.Image.{Image}
 use Rattle.ceu_isa.specs.declared.registers.Registers.{Registers}
 use Rattle.ceu_isa.specs.Turns as turns
 use Rattle.ceu_isa.specs.Turns.{Machine, State, Trail, ticks, is_on, longest_turn}
 use Rattle.ceu_tree.specs.declared.kernel.Kernel.{Kernel}
-use Rattle.ceu_tree.specs.Residual.{Program, Act, Residual}
+use Rattle.ceu_tree.specs.Residual.{Program, Act}
 use Rattle.ceu_tree.specs.Focus.{Focus}
 use Rattle.ceu_tree.specs.World.{World}
 use Rattle.ceu_tree.specs.Around.{Outcome, Goes, Rests, Raises, Fails, Past, Registers as Registered, AtBlockEnd, AtLoopHead, Ends, Leaves}
 use Rattle.ceu_tree.specs.Step.{stepped}
-use Rattle.ceu_tree.specs.Run.{Config, Turning, Between, Waiting, Ended, Faulted, config_of, faulted, next, steps}
+use Rattle.ceu_tree.specs.Run.{Config, Turning, Between, Ended, Faulted, config_of, faulted, next, steps}
 use Rattle.ceu_tree.specs.Abort.{aborted}
 use Rattle.ceu_shape.specs.Plans.{Plan}
 use Rattle.ceu_endings.specs.Ends.{longest_run, EndsTurns, TurnOver}
 use Rattle.ceu_endings.specs.Laws.{is_turning}
 use Rattle.ceu_endings.proofs.Ending.{turn_ends}
 use Rattle.ceu_trail.specs.Compiled.{Compiled}
-use Rattle.ceu_trail.specs.Coming.{most_ticks, Reaches, SameMarks, ComesOn, ComesToRest, ComesToEnd, ComesToFault, Comes}
+use Rattle.ceu_trail.specs.Coming.{most_ticks, Reaches, SameMarks, Comes}
 use Rattle.ceu_trail.specs.Laws.{StepsAreDone}
 use Rattle.ceu_trail.specs.Turning.{TurnStands}
 use Rattle.ceu_follows.specs.Kept.{Kept}
-use Rattle.ceu_follows.specs.Turns.{StandsBetween, SameEnd, TurnDone}
+use Rattle.ceu_follows.specs.Turns.{SameEnd, TurnDone}
 use Rattle.ceu_follows.proofs.Unharmed.{FailsClear, aborted_quietly}
 use Rattle.ceu_follows.proofs.Stepping.{next_is, next_kept, step_of}
 use Rattle.ceu_follows.proofs.Ticks.{ticks_then, ticks_stay, few_ticks}

@@ -1,5 +1,5 @@
 -- A step of a program of one trail runs no finalizer: no fault of one is noted, and what a fault leaves is aborted without any mark.
-use Rattle.std.proofs.Common.{◌≡◌, refl, sym, ap, ◌∙◌, subst, ℕ, ◌+◌, ◌+ℤ◌, pos, int_lt, Bool, true, false, if◌then◌else◌, ◌==◌, List, [], ◌∷◌, Option, Some, None, Result, Ok, Err}
+use Rattle.std.proofs.Common.{◌≡◌, refl, sym, ◌∙◌, subst, ℕ, int_lt, Bool, true, false, if◌then◌else◌, ◌==◌, List, [], ◌∷◌, Option, Some, None, Result, Ok, Err}
 use Rattle.ceu_base.specs.declared.kinds.Pos.{Pos}
 use Rattle.ceu_base.specs.declared.kinds.Fault.{Fault}
 use Rattle.ceu_tree.specs.declared.kernel.Kernel.{Kernel}
@@ -12,11 +12,11 @@ use Rattle.ceu_tree.specs.declared.kernel.KStmt as kernel
 use Rattle.ceu_tree.specs.declared.kernel.KStmt.{KStmt, out-KStmt}
 use Rattle.ceu_tree.specs.declared.kernel.KStmt.TheOpen.{KStmt-F}
 use Rattle.ceu_tree.specs.declared.kernel.Loc.{Loc}
-use Rattle.ceu_tree.specs.Residual.{Body, Program, Act, Begin, Start, Finish, AtEnd, AtHead, Again, Counter, Turns, Upward, Residual, Over, Run, WaitInput, WaitTime, WaitEvent, WaitForever, Block, Open, Loop, Instances, no_instance}
+use Rattle.ceu_tree.specs.Residual.{Body, Program, Act, Begin, Start, Finish, AtEnd, AtHead, Again, Counter, Turns, Upward, Residual, Over, Run, WaitInput, WaitTime, WaitForever, Block, Open, Loop, Instances, no_instance}
 use Rattle.ceu_tree.specs.Focus.{Frame, OfBlock, OfOpen, OfLoop, Focus, Here, In, fill, plug, leaf, body_in, body_of}
 use Rattle.ceu_tree.specs.World.{World, assign_if, forget_declared}
 use Rattle.ceu_tree.specs.Expressions.{value_of, value_if}
-use Rattle.ceu_tree.specs.Abort.{finalized, forget_turns, forget_loop, aborted, instances_aborted, closed}
+use Rattle.ceu_tree.specs.Abort.{forget_turns, forget_loop, aborted, closed}
 use Rattle.ceu_tree.specs.Leaf as does
 use Rattle.ceu_tree.specs.Leaf.{Layer, Exit, Escape, Break, Continue, Does, Done, or_fails, chosen_part, loop_reached, target, started, acted}
 use Rattle.ceu_tree.specs.Around.{Outcome, Goes, Rests, Raises, Fails, Past, Registers, AtBlockEnd, AtLoopHead, Ends, Leaves, Moved, moved, value_with, body_left, open_left, loop_exit, loop_left, turn_of, next_turn, through, up, taken}

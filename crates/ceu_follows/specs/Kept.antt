@@ -1,7 +1,6 @@
 -- What holds of each configuration in a run of a program of one trail: it fits its kernel, each slot that needs a value has one, counters lie within
 -- their bounds and values within their scopes and types, and no finalizer has faulted.
-use Rattle.std.specs.Prelude.{◌≡◌, ℕ, List, ◌++◌, None}
-use Rattle.ceu_base.specs.declared.kinds.Mark.{Mark}
+use Rattle.std.specs.Prelude.{◌≡◌, None}
 use Rattle.ceu_tree.specs.declared.kernel.Kernel.{Kernel}
 use Rattle.ceu_tree.specs.Run.{Config, Turning, Between, Waiting, Ended, Faulted, world_of, next}
 use Rattle.ceu_legal.specs.Shape.{ConfigFits}

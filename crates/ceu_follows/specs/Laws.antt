@@ -1,7 +1,6 @@
 -- The laws: turns, reactions, commands and runs of the machine on the code of a program of one trail, where one step in a turn is as it should be.
 use Rattle.std.specs.Prelude.{◌≡◌, ℕ, List, [], Some, None}
 use Rattle.std.specs.List.{AllByRecursion}
-use Rattle.ceu_base.specs.declared.kinds.Mark.{Mark}
 use Rattle.ceu_code.specs.declared.image.Image.{Image}
 use Rattle.ceu_isa.specs.declared.registers.Registers.{Registers}
 use Rattle.ceu_isa.specs.Commands as commands
@@ -17,7 +16,7 @@ use Rattle.ceu_tree.specs.Residual.{Act, Residual}
 use Rattle.ceu_tree.specs.Focus.{Focus, choose}
 use Rattle.ceu_tree.specs.Wake.{runs_at}
 use Rattle.ceu_tree.specs.World.{World}
-use Rattle.ceu_tree.specs.Run.{Config, Turning, Between, steps, booted, done, run, world_of}
+use Rattle.ceu_tree.specs.Run.{Config, Turning, Between, steps, booted, done, run, world_of, Status, Reacting, Waits, HasEnded, HasFaulted, Runs}
 use Rattle.ceu_shape.specs.Plans.{Plan}
 use Rattle.ceu_endings.specs.Ends.{EndsTurns}
 use Rattle.ceu_trail.specs.Compiled.{Compiled}
@@ -73,6 +72,19 @@ RunsFollow =
     (image : Image) (P : Plan) (width : ℕ → ℕ) (K : Kernel) (xs : List Command)
     → StepsAreDone → Compiled image P width K → EndsTurns K → AllByRecursion (IsCommand image) xs
     → Follows image P width K [] [] (λ n. run K n xs) (commands.run image xs)
+
+-- The marks and the outcome of a run of the machine are those of the run by the reference semantics.
+abbrev pub outcome_of : machine.Config → Status
+outcome_of machine.Lost = Reacting
+outcome_of (machine.Waits m) = Waits
+outcome_of (machine.HasEnded v m) = HasEnded v
+outcome_of (machine.HasFaulted f p m) = HasFaulted (f, p)
+
+abbrev pub RunsAreDone : Type 0
+RunsAreDone =
+    (image : Image) (P : Plan) (width : ℕ → ℕ) (K : Kernel) (xs : List Command)
+    → StepsAreDone → Compiled image P width K → EndsTurns K → AllByRecursion (IsCommand image) xs
+    → Runs K xs (marks_of (commands.run image xs)) (outcome_of (commands.run image xs))
 
 -- So the machine never does anything that isn't allowed.
 abbrev pub ImageIsSound : Type 0

@@ -10,7 +10,7 @@ use Rattle.ceu_isa.specs.Turns.{Machine}
 use Rattle.ceu_tree.specs.declared.kernel.Kernel.{Kernel}
 use Rattle.ceu_tree.specs.Residual.{Residual}
 use Rattle.ceu_tree.specs.World.{World}
-use Rattle.ceu_tree.specs.Run.{Config, Turning, Between, Waiting, Ended, Faulted, world_of}
+use Rattle.ceu_tree.specs.Run.{Config, Waiting, Ended, Faulted, world_of}
 use Rattle.ceu_shape.specs.Plans.{Plan}
 use Rattle.ceu_stands.specs.Laws.{AreBytes}
 use Rattle.ceu_stands.specs.Values.{WaitingStands}

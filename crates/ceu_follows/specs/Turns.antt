@@ -1,24 +1,21 @@
 -- What the machine comes to in a turn of a program of one trail: just what the turn of the reference semantics comes to.
-use Rattle.std.specs.Prelude.{◌≡◌, ◌≤◌, ℕ, Some, None}
+use Rattle.std.specs.Prelude.{◌≡◌, ◌≤◌, ℕ}
 use Rattle.ceu_code.specs.declared.image.Image.{Image}
 use Rattle.ceu_isa.specs.declared.registers.Registers.{Registers}
-use Rattle.ceu_isa.specs.Order.{Chosen, Nowhere}
-use Rattle.ceu_isa.specs.Reactions as machine
+use Rattle.ceu_isa.specs.Order.{Chosen}
 use Rattle.ceu_isa.specs.Reactions.{first_at, value_of_end}
 use Rattle.ceu_isa.specs.Safety.{Fits}
 use Rattle.ceu_isa.specs.Turns as turns
 use Rattle.ceu_isa.specs.Turns.{Machine, State, Trail, ticks, longest_turn, begun}
 use Rattle.ceu_tree.specs.declared.kernel.Kernel.{Kernel}
 use Rattle.ceu_tree.specs.Residual.{Act, Residual}
-use Rattle.ceu_tree.specs.Focus.{Focus, choose}
-use Rattle.ceu_tree.specs.Wake.{runs_at}
+use Rattle.ceu_tree.specs.Focus.{Focus}
 use Rattle.ceu_tree.specs.World.{World}
-use Rattle.ceu_tree.specs.Run.{Config, Turning, Between, Waiting, Ended, Faulted, steps}
+use Rattle.ceu_tree.specs.Run.{Config, Between, Ended, Faulted, steps}
 use Rattle.ceu_shape.specs.Plans.{Plan}
 use Rattle.ceu_stands.specs.Laws.{AreBytes}
 use Rattle.ceu_stands.specs.Values.{BetweenStands}
 use Rattle.ceu_endings.specs.Ends.{longest_run}
-use Rattle.ceu_trail.specs.Compiled.{Compiled}
 use Rattle.ceu_trail.specs.Coming.{SameMarks}
 use Rattle.ceu_trail.specs.Tables.{tables}
 use Rattle.ceu_trail.specs.Turning.{TurnStands}

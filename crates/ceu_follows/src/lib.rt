@@ -3,7 +3,7 @@
 #![tactic(auto)]
 
 ghost use Rattle.ceu_follows.specs.Kept.{StepsKeep};
-ghost use Rattle.ceu_follows.specs.Laws.{TurnsAreDone};
+ghost use Rattle.ceu_follows.specs.Laws.{BootFollows, CommandsFollow, ImageIsSound, NoneBegins, ReactionsFollow, RunsAreDone, RunsFollow, TurnsAreDone, TurnsBegin};
 
 /// A step of a reaction keeps what holds of configurations.
 pub fn steps_keep()
@@ -13,4 +13,44 @@ pub fn steps_keep()
 /// A turn comes to what that of the reference semantics comes to, with the same marks.
 pub fn turns_are_done()
     ensures { TurnsAreDone }
+{}
+
+/// A trail that can run begins its turn,
+pub fn turns_begin()
+    ensures { TurnsBegin }
+{}
+
+/// and where none can, the machine finds no gate.
+pub fn none_begins()
+    ensures { NoneBegins }
+{}
+
+/// So a reaction comes to what that of the reference semantics comes to, with the same marks.
+pub fn reactions_follow()
+    ensures { ReactionsFollow }
+{}
+
+/// Boot comes to what that of the reference semantics comes to,
+pub fn boot_follows()
+    ensures { BootFollows }
+{}
+
+/// and so does each command, from configurations that agree,
+pub fn commands_follow()
+    ensures { CommandsFollow }
+{}
+
+/// and each run.
+pub fn runs_follow()
+    ensures { RunsFollow }
+{}
+
+/// So the marks and the outcome of a run of the machine are those of the run by the reference semantics,
+pub fn runs_are_done()
+    ensures { RunsAreDone }
+{}
+
+/// and the image is sound: whatever commands come, nothing is done that isn't allowed.
+pub fn image_is_sound()
+    ensures { ImageIsSound }
 {}
