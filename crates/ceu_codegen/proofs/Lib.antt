@@ -1,0 +1,16 @@
+pub mod Levels
+pub mod Collected
+pub mod Small
+pub mod Walks
+pub mod Labelled
+pub mod Fresh
+pub mod Joined
+pub mod Each
+pub mod Scopes
+pub mod Fits
+pub mod Searched
+pub mod Counts
+pub mod Whole
+pub mod Parts
+pub mod Ended
+pub mod Imaged
