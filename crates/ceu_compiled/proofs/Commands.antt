@@ -7,11 +7,14 @@ use Rattle.ceu_base.specs.declared.kinds.Port.{Port}
 use Rattle.ceu_code.specs.declared.image.Image.{Image}
 use Rattle.ceu_driver.specs.Reactions.{Reaction, IsWaiting}
 use Rattle.ceu_follows.specs.Reactions.{Agrees, Follows}
+use Rattle.ceu_follows.proofs.Booting.{boot_follows}
+use Rattle.ceu_follows.proofs.Commands.{command_follows}
+use Rattle.ceu_follows.proofs.Runs.{image_is_sound}
 use Rattle.ceu_io.specs.declared.outside.Failed.{Failed}
 use Rattle.ceu_isa.specs.Commands.{booted, input_done, advanced, idle_turn, marks_of}
 use Rattle.ceu_isa.specs.Commands as commands
 use Rattle.ceu_isa.specs.Reactions as machine
-use Rattle.ceu_isa.specs.Safety.{IsCommand, IsInput}
+use Rattle.ceu_isa.specs.Safety.{IsCommand, IsInput, IsSound}
 use Rattle.ceu_machine.specs.Noting.{Noted, Stopped}
 use Rattle.ceu_machine.specs.States.{plain}
 use Rattle.ceu_react.specs.Coming.{Came}
@@ -24,6 +27,7 @@ use Rattle.ceu_script.specs.Shapes.{type_at}
 use Rattle.ceu_shape.specs.Plans.{Plan}
 use Rattle.ceu_shape.specs.Shape.{shape}
 use Rattle.ceu_trail.specs.Compiled.{Compiled}
+use Rattle.ceu_trail.specs.Laws.{StepsAreDone}
 use Rattle.ceu_tree.specs.declared.command.Command.{Command}
 use Rattle.ceu_tree.specs.declared.command.Command.TheVariants.{Input, Advance, Idle}
 use Rattle.ceu_tree.specs.declared.kernel.Kernel.{Kernel}
@@ -31,7 +35,7 @@ use Rattle.ceu_tree.specs.Residual.{Residual}
 use Rattle.ceu_tree.specs.World.{World}
 use Rattle.ceu_tree.specs.Run as run
 use Rattle.ceu_tree.specs.Run.{Config, Waiting, world_of, steps}
-use Rattle.ceu_compiled.specs.Standing.{Rules, IsCompiled, IsFresh, StandsAt, Stands, answered, config_of}
+use Rattle.ceu_compiled.specs.Standing.{IsCompiled, IsFresh, StandsAt, Stands, answered, config_of}
 use Rattle.ceu_compiled.proofs.Agreeing.{reaction}
 
 -- ---- what a command asks
@@ -66,6 +70,10 @@ takes s inputs event v h is =
 
 -- ---- what it comes to
 
+-- a compiled image does nothing that isn't allowed
+pub compiled_is_sound : (image : Image) (K : Kernel) → StepsAreDone → IsCompiled image K → IsSound image
+compiled_is_sound image K steps_done c = image_is_sound image c.plan c.width K c.compiled c.ends steps_done
+
 module _ (image : Image) (P : Plan) (width : ℕ → ℕ) (K : Kernel) (before : List Mark) where
   follows_input : (event : ℕ) (v : ℤ) (c : Config) (d : machine.Config) → Follows image P width K before [] (λ n. run.done K n (Input event v) c) (commands.done image (Input event v) d)
       → Follows image P width K before [] (λ n. run.input K n event v c) (input_done image event v d)
@@ -83,36 +91,36 @@ module _ (image : Image) (P : Plan) (width : ℕ → ℕ) (K : Kernel) (before :
   follows_idle c d f = f
 
 -- the session after a command
-kept : (old new : Seen) (K : Kernel) (r : Result After Failed) → new.image ≡ old.image → new.state ≡ state_after r → Rules → (c : IsCompiled old.image K)
+kept : (old new : Seen) (K : Kernel) (r : Result After Failed) → new.image ≡ old.image → new.state ≡ state_after r → StepsAreDone → (c : IsCompiled old.image K)
     → (b : Config) → Agrees old.image c.plan c.width K b (config_of (state_after r) new.bytes) → Stands new K b
-kept old new K r same state_is rules c b agrees =
+kept old new K r same state_is steps_done c b agrees =
     subst (λ (i : Image). StandsAt i new.state new.bytes K b) (sym same)
-    (subst (λ (s : State). StandsAt old.image s new.bytes K b) (sym state_is) (record { rules = rules; compiled = c; agrees = agrees }))
+    (subst (λ (s : State). StandsAt old.image s new.bytes K b) (sym state_is) (record { steps = steps_done; compiled = c; agrees = agrees }))
 
 module _ {W : Type 0} (notes stops : W → Mark → W → Type 0) (old new : Seen) (out now : W) (r : Result After Failed) (same : new.image ≡ old.image) (state_is : new.state ≡ state_after r) where
   -- what the machine comes to is what was answered and noted
   abbrev pub Answers : machine.Config → Type 0
   Answers d = IfOk r (λ a. Came d a new.bytes) × OnOk r (Noted notes (marks_of d) out now) × OnErr r (Stopped notes stops (marks_of d) out now)
 
-  comes : (K : Kernel) (later : ℕ → Config) (before : List Mark) (d : machine.Config) (rules : Rules) (c : IsCompiled old.image K)
+  comes : (K : Kernel) (later : ℕ → Config) (before : List Mark) (d : machine.Config) (steps_done : StepsAreDone) (c : IsCompiled old.image K)
       → Follows old.image c.plan c.width K before [] later d → Answers d → Reaction notes stops (Stands new K) later before out now (answered r)
-  comes K later before d rules c f a = reaction old.image c.plan c.width K notes stops (Stands new K) later before out now d new.bytes r f a.0 a.1 a.2 (kept old new K r same state_is rules c)
+  comes K later before d steps_done c f a = reaction old.image c.plan c.width K notes stops (Stands new K) later before out now d new.bytes r f a.0 a.1 a.2 (kept old new K r same state_is steps_done c)
 
   pub boot_comes : Answers (booted old.image (plain old.bytes)) → (K : Kernel) → IsFresh old K
       → Reaction notes stops (Stands new K) (λ n. steps K n (run.booted K)) [] out now (answered r)
-  boot_comes a K fresh = comes K (λ n. steps K n (run.booted K)) [] (booted old.image (plain old.bytes)) fresh.rules fresh.compiled
+  boot_comes a K fresh = comes K (λ n. steps K n (run.booted K)) [] (booted old.image (plain old.bytes)) fresh.steps fresh.compiled
       (subst (λ (bs : List ℕ). Follows old.image fresh.compiled.plan fresh.compiled.width K [] [] (λ n. steps K n (run.booted K)) (booted old.image (plain bs))) (sym fresh.blank)
-      (fresh.rules.boot old.image fresh.compiled.plan fresh.compiled.width K fresh.rules.steps fresh.compiled.compiled fresh.compiled.ends)) a
+      (boot_follows old.image fresh.compiled.plan fresh.compiled.width K fresh.compiled.compiled fresh.compiled.ends fresh.steps)) a
 
   -- a command from where the session waits
   follows : (x : Command) → IsCommand old.image x → old.state ≡ state.Waiting → (K : Kernel) (b : Config) → (h : Stands old K b)
       → Follows old.image h.compiled.plan h.compiled.width K (world_of b).marks [] (λ n. run.done K n x b) (commands.done old.image x (machine.Waits (plain old.bytes)))
-  follows x is waiting K b h = h.rules.commands old.image h.compiled.plan h.compiled.width K x b (machine.Waits (plain old.bytes)) h.rules.steps h.compiled.compiled h.compiled.ends is
+  follows x is waiting K b h = command_follows old.image h.compiled.plan h.compiled.width K h.compiled.compiled h.compiled.ends h.steps x b (machine.Waits (plain old.bytes)) is
       (subst (λ (s : State). Agrees old.image h.compiled.plan h.compiled.width K b (config_of s old.bytes)) waiting h.agrees)
 
   input_comes : (event : ℕ) (v : ℤ) → Answers (input_done old.image event v (machine.Waits (plain old.bytes))) → IsCommand old.image (Input event v) → old.state ≡ state.Waiting
       → (K : Kernel) (b : Config) → Stands old K b → Reaction notes stops (Stands new K) (λ n. run.input K n event v b) (world_of b).marks out now (answered r)
-  input_comes event v a is waiting K b h = comes K (λ n. run.input K n event v b) (world_of b).marks (input_done old.image event v (machine.Waits (plain old.bytes))) h.rules h.compiled
+  input_comes event v a is waiting K b h = comes K (λ n. run.input K n event v b) (world_of b).marks (input_done old.image event v (machine.Waits (plain old.bytes))) h.steps h.compiled
       (follows_input old.image h.compiled.plan h.compiled.width K (world_of b).marks event v b (machine.Waits (plain old.bytes)) (follows (Input event v) is waiting K b h)) a
 
   -- the same with the value as the machine's code has it
@@ -122,10 +130,10 @@ module _ {W : Type 0} (notes stops : W → Mark → W → Type 0) (old new : See
 
   pub advance_comes : (us : ℕ) → Answers (advanced old.image (us + 1) us (machine.Waits (plain old.bytes))) → us < 2 ^ 63 → old.state ≡ state.Waiting
       → (K : Kernel) (b : Config) → Stands old K b → Reaction notes stops (Stands new K) (λ n. run.done K n (Advance us) b) (world_of b).marks out now (answered r)
-  advance_comes us a is waiting K b h = comes K (λ n. run.done K n (Advance us) b) (world_of b).marks (advanced old.image (us + 1) us (machine.Waits (plain old.bytes))) h.rules h.compiled
+  advance_comes us a is waiting K b h = comes K (λ n. run.done K n (Advance us) b) (world_of b).marks (advanced old.image (us + 1) us (machine.Waits (plain old.bytes))) h.steps h.compiled
       (follows_advance old.image h.compiled.plan h.compiled.width K (world_of b).marks us b (machine.Waits (plain old.bytes)) (follows (Advance us) is waiting K b h)) a
 
   pub idle_comes : Answers (idle_turn old.image (machine.Waits (plain old.bytes))) → old.state ≡ state.Waiting
       → (K : Kernel) (b : Config) → Stands old K b → Reaction notes stops (Stands new K) (λ n. run.idle_turn K n b) (world_of b).marks out now (answered r)
-  idle_comes a waiting K b h = comes K (λ n. run.idle_turn K n b) (world_of b).marks (idle_turn old.image (machine.Waits (plain old.bytes))) h.rules h.compiled
+  idle_comes a waiting K b h = comes K (λ n. run.idle_turn K n b) (world_of b).marks (idle_turn old.image (machine.Waits (plain old.bytes))) h.steps h.compiled
       (follows_idle old.image h.compiled.plan h.compiled.width K (world_of b).marks b (machine.Waits (plain old.bytes)) (follows (Idle 1) (omega arith, omega arith) waiting K b h)) a

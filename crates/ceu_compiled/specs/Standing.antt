@@ -4,7 +4,6 @@ use Rattle.ceu_code.specs.declared.image.Image.{Image}
 use Rattle.ceu_driver.specs.declared.reactor.After.{After}
 use Rattle.ceu_driver.specs.declared.reactor.After.TheVariants as after
 use Rattle.ceu_endings.specs.Ends.{EndsTurns}
-use Rattle.ceu_follows.specs.Laws.{BootFollows, CommandsFollow}
 use Rattle.ceu_follows.specs.Reactions.{Agrees}
 use Rattle.ceu_io.specs.declared.outside.Failed.{Failed}
 use Rattle.ceu_isa.specs.Layout.{end_of}
@@ -31,12 +30,6 @@ abbrev pub answered : Result session.After Failed → Result After Failed
 answered (Ok a) = Ok (answer a)
 answered (Err e) = Err e
 
--- what is known of the machine: a step of a turn, boot and each command come to what the reference semantics says
-pub record Rules : Type 0 where
-  pub steps : StepsAreDone
-  pub boot : BootFollows
-  pub commands : CommandsFollow
-
 -- The image is the kernel's, by some plan of its slots and gates.
 pub record IsCompiled (image : Image) (K : Kernel) : Type 0 where
   pub plan : Plan
@@ -52,16 +45,17 @@ config_of (Faulted fault place) bytes = machine.HasFaulted fault place (plain by
 config_of Fresh bytes = machine.Lost
 config_of Broken bytes = machine.Lost
 
--- The session runs the program of the kernel, and wasn't booted yet.
+-- The session runs the program of the kernel, and wasn't booted yet. That a step of a turn does on the machine what it does by the reference semantics
+-- is a premise.
 pub record IsFresh (s : Seen) (K : Kernel) : Type 0 where
-  pub rules : Rules
+  pub steps : StepsAreDone
   pub compiled : IsCompiled s.image K
   pub blank : s.bytes ≡ replicate (end_of s.image) 0
   pub state_is : s.state ≡ Fresh
 
 -- It runs the program of the kernel, and agrees with this configuration of the reference semantics.
 pub record StandsAt (image : Image) (state : State) (bytes : List ℕ) (K : Kernel) (c : Config) : Type 0 where
-  pub rules : Rules
+  pub steps : StepsAreDone
   pub compiled : IsCompiled image K
   pub agrees : Agrees image compiled.plan compiled.width K c (config_of state bytes)
 
