@@ -1,5 +1,5 @@
 -- The image that is made of a kernel of one trail.
-use Rattle.std.specs.Prelude.{◌≡◌, ℕ, ◌≤◌, false, List}
+use Rattle.std.specs.Prelude.{ℕ, ◌≤◌, false, List}
 use Rattle.ceu_gates.specs.Ranges.{IsByNode, first_gate, gate_count}
 use Rattle.ceu_shape.specs.Plans.{Plan, plan_of}
 use Rattle.ceu_shape.specs.Shape.{shape}

@@ -1,9 +1,8 @@
 //! Images of programs of one trail: the image that is made of a kernel is a compiled one.
 #![tactic(auto)]
 
-ghost use Rattle.ceu_images.specs.Laws.{ImagesAreCompiled};
+mod image;
+mod laws;
 
-/// The image of a proper kernel of one trail that is within the limits on sizes, by plans of its slots and gates, is a compiled image of the kernel.
-pub fn images_are_compiled()
-    ensures { ImagesAreCompiled }
-{}
+pub use image::image_of;
+pub use laws::images_are_compiled;
