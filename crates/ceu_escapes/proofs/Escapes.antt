@@ -1,10 +1,9 @@
 -- An escape without a value: the trail aborts the gates of the do, all of which are free, and goes behind it.
-use Rattle.std.proofs.Common.{◌≡◌, refl, sym, ap, ◌∙◌, subst, ◌≤◌, ℕ, ◌+◌, ℤ, pos, Bool, true, ◌==◌, List, [], ◌∷◌, Option, Some, None, arith, eqb-true, eq-eqb}
+use Rattle.std.proofs.Common.{◌≡◌, refl, sym, ap, ◌∙◌, subst, ◌≤◌, ℕ, ◌+◌, ℤ, pos, Bool, true, List, [], ◌∷◌, Option, Some, None, arith, eq-eqb}
 use Rattle.std.specs.Prelude.{◌&&◌, not}
 use Rattle.std.proofs.lemmas.Bool.{and_parts, false≢true}
 use Rattle.std.proofs.lemmas.List.{append-nil}
 use Rattle.ceu_base.specs.declared.kinds.Pos.{Pos}
-use Rattle.ceu_base.specs.declared.kinds.Ty.{Ty}
 use Rattle.ceu_base.specs.declared.kinds.Ty.TheVariants as ty
 use Rattle.ceu_code.specs.declared.image.Image.{Image}
 use Rattle.ceu_code.specs.declared.instr.Instr.TheVariants as instr
@@ -13,7 +12,7 @@ use Rattle.ceu_isa.specs.Turns.{Machine, Trail}
 use Rattle.ceu_tree.specs.declared.kernel.Kernel.{Kernel}
 use Rattle.ceu_tree.specs.declared.kernel.KExp.{KExp}
 use Rattle.ceu_tree.specs.declared.kernel.KNode.{KNode}
-use Rattle.ceu_tree.specs.declared.kernel.KBlock.{KBlock, KBlock', out-KBlock}
+use Rattle.ceu_tree.specs.declared.kernel.KBlock.{KBlock}
 use Rattle.ceu_tree.specs.declared.kernel.KStmt as kernel
 use Rattle.ceu_tree.specs.declared.kernel.KStmt.{KStmt, out-KStmt}
 use Rattle.ceu_tree.specs.declared.kernel.KStmt.TheOpen.{KStmt-F}
@@ -25,7 +24,7 @@ use Rattle.ceu_tree.specs.Proper.{Scope, escape_ok, reads, is_loop_variable, loo
 use Rattle.ceu_tree.specs.Typing.{same_ty, holds_all}
 use Rattle.ceu_tree.specs.Residual.{Program, Act, Start, Over, no_instance}
 use Rattle.ceu_tree.specs.Focus.{Frame, OfBlock, OfOpen, Focus, Here, In, plug}
-use Rattle.ceu_tree.specs.Around.{Goes, Past, Leaves, Moved, moved, through, up, taken, open_left, value_with}
+use Rattle.ceu_tree.specs.Around.{Goes, Past, Leaves, Moved, moved, through, up, taken, open_left}
 use Rattle.ceu_tree.specs.Step.{stepped}
 use Rattle.ceu_tree.specs.World.{World, assign_if}
 use Rattle.ceu_legal.specs.Shape.{Part, block_scope}
@@ -47,12 +46,12 @@ use Rattle.ceu_steps.proofs.Lines.{goto_runs}
 use Rattle.ceu_steps.proofs.Sweeps.{abort_goes_on}
 use Rattle.ceu_steps.proofs.Expressions.{gates_free}
 use Rattle.ceu_steps.proofs.Simple.{passed_on}
-use Rattle.ceu_steps.proofs.Turns.{Standing, AtStart, single_of, reached, among, gates, scene, fine}
+use Rattle.ceu_steps.proofs.Turns.{Standing, AtStart, single_of, reached, among, gates, fine}
 use Rattle.ceu_steps.proofs.Worlds.{holds_fades}
 use Rattle.ceu_rounds.proofs.Spots.{StepDone}
 use Rattle.ceu_rounds.proofs.Rising.{Rising, rising_here}
 use Rattle.ceu_escapes.specs.Laws.{bare}
-use Rattle.ceu_escapes.proofs.Targets.{EscapeArrives, at_do, at_body, do_type, rise}
+use Rattle.ceu_escapes.proofs.Targets.{EscapeArrives, at_do, at_body, rise}
 use denote.Hole.Carrier
 
 -- ---- what the do makes of it

@@ -16,7 +16,7 @@ use Rattle.ceu_tree.specs.Legal.{finalizers_of}
 use Rattle.ceu_tree.specs.Proper.{Scope, Aim, BodyAim, do_aim, gives_if, escape_ok, is_proper}
 use Rattle.ceu_tree.specs.Residual.{Act, no_instance}
 use Rattle.ceu_tree.specs.Focus.{Frame, OfBlock, OfOpen, OfLoop, Focus, In}
-use Rattle.ceu_tree.specs.Leaf.{Layer, Exit, Escape}
+use Rattle.ceu_tree.specs.Leaf.{Layer, Escape}
 use Rattle.ceu_tree.specs.World.{World}
 use Rattle.ceu_legal.specs.Shape.{Part, AStatement, part_scope, opens_part}
 use Rattle.ceu_endings.proofs.Aims.{Below, leads_below, escape_leads, turns_aims}

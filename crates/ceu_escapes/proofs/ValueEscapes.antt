@@ -1,5 +1,5 @@
 -- An escape with a value that leaves a do: the value goes to the header, the gates of the do are aborted, and the value goes from there to the target.
-use Rattle.std.proofs.Common.{◌≡◌, ◌≢◌, refl, sym, ap, ◌∙◌, subst, ◌<◌, ◌≤◌, ℕ, ◌+◌, ◌%◌, ◌^◌, ℤ, pos, Bool, true, false, List, [], ◌∷◌, ◌++◌, length, Option, Some, None, Ok, Err, arith}
+use Rattle.std.proofs.Common.{◌≡◌, ◌≢◌, refl, sym, ap, ◌∙◌, subst, ◌<◌, ℕ, ◌+◌, ℤ, pos, Bool, true, List, [], ◌∷◌, ◌++◌, Option, Some, None, Ok, Err, arith}
 use Rattle.std.specs.Prelude.{◌&&◌, not}
 use Rattle.std.proofs.lemmas.Bool.{and_parts, le-leb, false≢true}
 use Rattle.std.proofs.lemmas.List.{append-nil}
@@ -36,9 +36,9 @@ use Rattle.ceu_tree.specs.Depth.{stmt_depth, exp_depth}
 use Rattle.ceu_tree.specs.Expressions.{Answer, value_of}
 use Rattle.ceu_tree.specs.Leaf as does
 use Rattle.ceu_tree.specs.Leaf.{Layer, Exit, Escape, acted, or_fails, target}
-use Rattle.ceu_tree.specs.Proper.{Scope, reads, asks, gives, gives_if, takes}
+use Rattle.ceu_tree.specs.Proper.{Scope, reads, asks, gives, gives_if}
 use Rattle.ceu_tree.specs.Residual.{Program, Act, Start, Over, no_instance}
-use Rattle.ceu_tree.specs.Focus.{Frame, OfBlock, OfOpen, Focus, Here, In, plug}
+use Rattle.ceu_tree.specs.Focus.{Frame, OfBlock, OfOpen, Focus, Here, plug}
 use Rattle.ceu_tree.specs.Around.{Past, Moved, moved}
 use Rattle.ceu_tree.specs.Typing.{same_ty, typed, holds_all}
 use Rattle.ceu_tree.specs.World.{World, assign, assign_if}
@@ -68,7 +68,6 @@ use Rattle.ceu_steps.specs.Ready.{longest, Brings, Evaluated}
 use Rattle.ceu_steps.specs.Premises.{BuiltLaws, LayerPlaced}
 use Rattle.ceu_steps.specs.Reached.{wrap}
 use Rattle.ceu_steps.specs.Live.{vars_in}
-use Rattle.ceu_steps.proofs.Assigns.{front}
 use Rattle.ceu_steps.proofs.Expressions.{expression_runs}
 use Rattle.ceu_steps.proofs.Finds.{vars_here, vars_wrap}
 use Rattle.ceu_steps.proofs.Finishes.{value_taken, store_passed}
