@@ -1,0 +1,2 @@
+//! Programs of one trail: loops over a range, step by step.
+#![tactic(auto)]
