@@ -1,5 +1,5 @@
 -- What the head of a loop over a range makes of a whole turn: the loop is over, or its variable takes the next value and the body begins.
-use Rattle.std.proofs.Common.{◌≡◌, refl, ap, ◌∙◌, ℕ, ℤ, pos, Bool, true, false, List, [], ◌∷◌}
+use Rattle.std.proofs.Common.{◌≡◌, ap, ℕ, ℤ, pos, Bool, true, false, List, [], ◌∷◌}
 use Rattle.std.specs.Prelude.{◌+ℤ◌, int_lt, if◌then◌else◌}
 use Rattle.ceu_base.specs.declared.kinds.Pos.{Pos}
 use Rattle.ceu_tree.specs.declared.kernel.Kernel.{Kernel}
@@ -14,7 +14,7 @@ use Rattle.ceu_tree.specs.World.{World, Holds, set}
 use Rattle.ceu_tree.specs.Abort.{forget_loop}
 use Rattle.ceu_tree.specs.Leaf as does
 use Rattle.ceu_tree.specs.Leaf.{acted, next_of, rest_of}
-use Rattle.ceu_tree.specs.Around.{Moved, moved, Goes, Past, next_turn}
+use Rattle.ceu_tree.specs.Around.{moved, Goes, Past, next_turn}
 use Rattle.ceu_tree.specs.Step.{stepped}
 use Rattle.ceu_legal.specs.Shape.{Part}
 use Rattle.ceu_steps.specs.Reached.{wrap, Reached}

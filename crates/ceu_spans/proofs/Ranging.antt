@@ -1,5 +1,5 @@
 -- Instructions of a loop over a range: an end is taken from the first cell, and the head takes the next value or leaves.
-use Rattle.std.proofs.Common.{◌≡◌, ◌≢◌, refl, ap, ◌∙◌, ◌<◌, ◌≤◌, ℕ, ◌+◌, ℤ, pos, Bool, true, false, List, [], Option, Some, arith}
+use Rattle.std.proofs.Common.{◌≡◌, refl, ap, ◌∙◌, ◌<◌, ◌≤◌, ℕ, ◌+◌, ℤ, pos, Bool, true, false, [], Option, Some, arith}
 use Rattle.std.specs.Prelude.{◌+ℤ◌, int_lt, ◌&&◌, if◌then◌else◌}
 use Rattle.std.proofs.lemmas.Bool.{le-leb, and_from}
 use Rattle.ceu_base.specs.declared.kinds.Ty.TheVariants as ty
