@@ -1,5 +1,5 @@
 -- From the answers of the parts to that of the whole.
-use Rattle.std.proofs.Common.{◌≡◌, ◌∙◌, refl, sym, ap, subst, ℕ, ◌<◌, ◌≤◌, inl, inr, false, List, length, Option, Some, None, Result, Ok, Err}
+use Rattle.std.proofs.Common.{◌≡◌, ◌∙◌, refl, sym, ap, subst, ℕ, ◌<◌, ◌≤◌, inl, inr, false, List, ◌++◌, length, Option, Some, None, Result, Ok, Err}
 use Rattle.std.specs.Prelude.{IfSome, IfOk, OnOk, OnErr}
 use Rattle.std.specs.Global.{Vec}
 use Rattle.ceu_base.specs.declared.kinds.Pos.{Pos}
@@ -15,11 +15,15 @@ use Rattle.ceu_compile.specs.Programs.{IsProgram, IsBroken}
 use Rattle.ceu_compile.specs.Trees.{HasTree, IsTreeRefusal}
 use Rattle.ceu_compile.specs.declared.errors.CompileError.{CompileError}
 use Rattle.ceu_compile.specs.declared.errors.CompileError.TheVariants as broken
+use Rattle.ceu_driver.proofs.Fronts.{front_behind, front_of_more}
 use Rattle.ceu_driver.specs.Runs.{PlayCause}
 use Rattle.ceu_driver.specs.declared.answers.Played.{Played}
 use Rattle.ceu_driver.specs.declared.answers.Played.TheVariants as played
 use Rattle.ceu_io.specs.Bytes.{Appends, AppendsProperFront}
-use Rattle.ceu_io.specs.Counts.{HasCause}
+use Rattle.ceu_gates.specs.Ranges.{first_gate, gate_count, IsByNode}
+use Rattle.ceu_gates.specs.declared.plan.GatePlan.{GatePlan}
+use Rattle.ceu_io.proofs.Offers.{appends_then}
+use Rattle.ceu_io.specs.Counts.{HasCause, Rose}
 use Rattle.ceu_io.specs.Shelves.{Fetches, IsWithin, HasShelfCause}
 use Rattle.ceu_io.specs.Told.{WhereTold}
 use Rattle.ceu_io.specs.declared.outside.Failed.{Failed}
@@ -28,11 +32,13 @@ use Rattle.ceu_io.specs.declared.shelves.Fetched.TheVariants as fetched
 use Rattle.ceu_io.specs.declared.shelves.ShelfError.{ShelfError}
 use Rattle.ceu_io.specs.declared.shelves.ShelfError.TheVariants as failed
 use Rattle.ceu_lex.specs.declared.token.Token.{Token}
+use Rattle.ceu_listing.specs.Lines.{listing_text}
 use Rattle.ceu_print.specs.Statements.{program_text}
 use Rattle.ceu_run.specs.Forms.{first_unbuilt}
 use Rattle.ceu_run.specs.Lines.{memory_line}
 use Rattle.ceu_run.specs.Runs.{RunPrints}
 use Rattle.ceu_show.specs.Shown.{show_text}
+use Rattle.ceu_slots.specs.Plans.{Planned, HasPlaces}
 use Rattle.ceu_tree.specs.Costs.{bounds}
 use Rattle.ceu_tree.specs.Needs.{memory}
 use Rattle.ceu_tree.specs.declared.kernel.Kernel.{Kernel}
@@ -42,8 +48,9 @@ use Rattle.ceu_top.specs.Fetching.{Files, answer_of, HasFetched, IsFetch}
 use Rattle.ceu_top.specs.Lines.{refusal_line, no_image_line}
 use Rattle.ceu_top.specs.Outcomes.{Names, Prints}
 use Rattle.ceu_top.specs.declared.status.Status.{Status}
-use Rattle.ceu_top.specs.declared.status.Status.TheVariants.{Done, Refused, Memory}
+use Rattle.ceu_top.specs.declared.status.Status.TheVariants.{Done, Refused, Write, Memory}
 use Rattle.ceu_top.specs.declared.words.Mode.{Mode}
+use Rattle.ceu_top.specs.declared.words.Mode.TheVariants as asked
 use Rattle.ceu_top.specs.declared.words.Mode.TheVariants.{Run, Check, Tidy, Show}
 
 -- what was told before a call
@@ -119,6 +126,7 @@ done_from mode text line status held now o o' defined (inr w) =
 refusal_printed : (mode : Mode) (text : List ℕ) (rule : Rule) (place : Pos) → Names mode text rule place → (script : List ℕ) → Prints mode Refused text script (refusal_line rule place)
 refusal_printed Run text rule place named script = (rule, place, named, refl)
 refusal_printed Check text rule place named script = (rule, place, named, refl)
+refusal_printed asked.List text rule place named script = (rule, place, named, refl)
 refusal_printed Tidy text rule place named script = (rule, place, named, refl)
 refusal_printed Show text rule place named script = absurd named
 
@@ -143,6 +151,34 @@ pub memory_shown : (text : List ℕ) (K : Kernel) (m : ℕ) (b : Bounds) (status
     → IsProgram text K → m ≡ memory false K → AreBounds K b → IsWritten (memory_line m b.turns b.levels) Done status held now o o' → IsPrintAnswer Check status text held now o o'
 memory_shown text K m b status held now o o' program sized bounded w =
     record { is = done_from Check text (memory_line m b.turns b.levels) status held now o o' (λ script. (K, program, lines_same m (memory false K) b.turns (bounds K).turns b.levels (bounds K).opens sized bounded.turns bounded.levels)) w.is }
+
+-- a line, and then more
+both_written : (a b : List ℕ) (r : Result (Unit {0}) Failed) (held between now : Option (List ℕ)) (o p o' : ℕ)
+    → Appends a held between → p ≡ o → OnOk r (Appends b between now) → OnErr r (AppendsProperFront b between now) → HasCause p o' r → Written (a ++ b) Done (status_of r Done) held now o o'
+both_written a b (Ok u) held between now o p o' first same appends front cause = inl (refl, appends_then a b held between now first appends, cause ∙ same)
+both_written a b (Err e) held between now o p o' first same appends front cause =
+    let c : HasCause {T = Unit {0}} o o' (Err e) = subst (λ n. HasCause {T = Unit {0}} n o' (Err e)) same cause in inr (refl, front_behind a b held between now first front, c.0, c.1)
+
+pub both_shown : (a b : List ℕ) (status : Status) (r : Result (Unit {0}) Failed) (held between now : Option (List ℕ)) (o p o' : ℕ)
+    → Appends a held between → p ≡ o → OnOk r (Appends b between now) → OnErr r (AppendsProperFront b between now) → HasCause p o' r → status ≡ status_of r Done → IsWritten (a ++ b) Done status held now o o'
+both_shown a b status r held between now o p o' first same appends front cause e =
+    record { is = subst (λ s. Written (a ++ b) Done s held now o o') (sym e) (both_written a b r held between now o p o' first same appends front cause) }
+
+pub first_broken : (a b : List ℕ) (held now : Option (List ℕ)) (o o' : ℕ) → AppendsProperFront a held now → (o ≤ o') × Rose o o' → IsWritten (a ++ b) Done Write held now o o'
+first_broken a b held now o o' front cause = record { is = inr (refl, front_of_more a b held now front, cause.0, cause.1) }
+
+pub listing_shown : (text : List ℕ) (K : Kernel) (m : ℕ) (b : Bounds) (places : Planned) (gates : GatePlan) (status : Status) (held now : Option (List ℕ)) (o o' : ℕ)
+    → IsProgram text K → m ≡ memory false K → AreBounds K b → HasPlaces false K places → IsByNode K (first_gate K) gates.first → IsByNode K (gate_count K) gates.count
+    → IsWritten (memory_line m b.turns b.levels ++ listing_text places gates K) Done status held now o o' → IsPrintAnswer asked.List status text held now o o'
+listing_shown text K m b places gates status held now o o' program sized bounded placed first count w = record {
+  is = done_from asked.List text (memory_line m b.turns b.levels ++ listing_text places gates K) status held now o o' (λ script. (
+    K,
+    listing_text places gates K,
+    program,
+    (places, gates, placed, first, count, refl),
+    ap (λ l. l ++ listing_text places gates K) (lines_same m (memory false K) b.turns (bounds K).turns b.levels (bounds K).opens sized bounded.turns bounded.levels),
+  )) w.is;
+}
 
 pub form_shown : (text form bytes : List ℕ) (tokens : List Token) (tree : Tree) (status : Status) (held now : Option (List ℕ)) (o o' : ℕ)
     → HasTree text tokens tree → form ≡ program_text tree → bytes ≡ form → IsWritten bytes Done status held now o o' → IsPrintAnswer Tidy status text held now o o'

@@ -2,3 +2,4 @@ pub mod Answering
 pub mod Statuses
 pub mod Clauses
 pub mod Lining
+pub mod Limits

@@ -15,12 +15,16 @@ use Rattle.ceu_driver.specs.declared.answers.Played.TheVariants as played
 use Rattle.ceu_io.specs.Bytes.{Appends, AppendsProperFront}
 use Rattle.ceu_io.specs.Counts.{Quiet}
 use Rattle.ceu_io.specs.Told.{WhereTold}
+use Rattle.ceu_gates.specs.Ranges.{first_gate, gate_count, IsByNode}
+use Rattle.ceu_gates.specs.declared.plan.GatePlan.{GatePlan}
 use Rattle.ceu_lex.specs.declared.token.Token.{Token}
+use Rattle.ceu_listing.specs.Lines.{listing_text}
 use Rattle.ceu_print.specs.Statements.{program_text}
 use Rattle.ceu_run.specs.Forms.{first_unbuilt}
 use Rattle.ceu_run.specs.Lines.{memory_line}
 use Rattle.ceu_run.specs.Runs.{IsRun, IsCut, IsUpTo, lines_of}
 use Rattle.ceu_show.specs.Shown.{show_text}
+use Rattle.ceu_slots.specs.Plans.{Planned, HasPlaces}
 use Rattle.ceu_tree.specs.Costs.{bounds}
 use Rattle.ceu_tree.specs.Needs.{memory}
 use Rattle.ceu_tree.specs.declared.kernel.Kernel.{Kernel}
@@ -31,6 +35,7 @@ use Rattle.ceu_top.specs.Lines.{refusal_line, no_image_line}
 use Rattle.ceu_top.specs.declared.status.Status.{Status}
 use Rattle.ceu_top.specs.declared.status.Status.TheVariants.{Done, Refused, Words, Script, Fault, Read, Write, Memory, Absent, TooLong}
 use Rattle.ceu_top.specs.declared.words.Mode.{Mode}
+use Rattle.ceu_top.specs.declared.words.Mode.TheVariants as asked
 use Rattle.ceu_top.specs.declared.words.Mode.TheVariants.{Run, Check, Tidy, Show}
 
 -- ---- what is printed
@@ -47,11 +52,12 @@ IsRunnable text K = IsProgram text K × (first_unbuilt K ≡ None)
 abbrev pub RefusesToRun : List ℕ → Rule → Pos → Type 0
 RefusesToRun text rule place = Breaks text rule place ⊎ ((K : Kernel) × IsProgram text K × (rule ≡ B0) × (first_unbuilt K ≡ Some place))
 
--- The rule and the place that a mode names: `run` and `check` ask all rules, `tidy` those on tokens and on grammar alone, `show`, which takes no
+-- The rule and the place that a mode names: `run`, `check` and `list` ask all rules, `tidy` those on tokens and on grammar alone, `show`, which takes no
 -- text, none.
 abbrev pub Names : Mode → List ℕ → Rule → Pos → Type 0
 Names Run text rule place = RefusesToRun text rule place
 Names Check text rule place = Breaks text rule place
+Names asked.List text rule place = Breaks text rule place
 Names Tidy text rule place = HasNoTree text rule place
 Names Show text rule place = ⊥
 
@@ -62,6 +68,15 @@ Runs answer text script written = (K : Kernel) × IsRunnable text K × IsRun ans
 -- The memory line of a text that breaks no rule.
 abbrev pub Checks : (text written : List ℕ) → Type 0
 Checks text written = (K : Kernel) × IsProgram text K × (written ≡ first_line K)
+
+-- The listing of a kernel by plans of its slots, overlapped, and of its gates.
+abbrev pub IsListing : Kernel → (lines : List ℕ) → Type 0
+IsListing K lines = (places : Planned) × (gates : GatePlan) × HasPlaces false K places × IsByNode K (first_gate K) gates.first × IsByNode K (gate_count K) gates.count
+    × (lines ≡ listing_text places gates K)
+
+-- The memory line of a text that breaks no rule, and the listing of its kernel.
+abbrev pub Lists : (text written : List ℕ) → Type 0
+Lists text written = (K : Kernel) × (lines : List ℕ) × IsProgram text K × IsListing K lines × (written ≡ first_line K ++ lines)
 
 -- The printed form of a text that breaks no rule on tokens and on grammar.
 abbrev pub Tidies : (text written : List ℕ) → Type 0
@@ -85,6 +100,7 @@ Prints Run Done text script written = Runs played.Done text script written
 Prints Run Script text script written = Runs played.Script text script written
 Prints Run Fault text script written = Runs played.Fault text script written
 Prints Check Done text script written = Checks text written
+Prints asked.List Done text script written = Lists text written
 Prints Tidy Done text script written = Tidies text written
 Prints Show Done bytes script written = Shows bytes written
 Prints Show Refused bytes script written = RefusesBytes bytes written

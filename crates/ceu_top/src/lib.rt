@@ -4,6 +4,7 @@
 mod checking;
 mod fetch;
 mod lines;
+mod listing;
 mod refusal;
 mod running;
 mod showing;

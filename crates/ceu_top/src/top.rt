@@ -7,6 +7,7 @@ ghost use Rattle.ceu_top.specs.Outcomes.{On, Headline, IsAbsent, IsTooLong, IsWh
 
 use crate::checking::check_text;
 use crate::fetch::fetch;
+use crate::listing::list_text;
 use crate::running::run_text;
 use crate::showing::show_bytes;
 use crate::status::Status;
@@ -15,11 +16,11 @@ use crate::words::{Mode, command_of};
 use ceu_io::{Shelf, Sink, Source};
 use std::alloc::Global;
 
-/// Does what the words of a command line say: `run`, `check`, `tidy` or `show` with a file's name.
+/// Does what the words of a command line say: `run`, `check`, `list`, `tidy` or `show` with a file's name.
 ///
 /// The mode `run` prints the bytes of a program's memory and the turns and levels of its reactions, boots it, does the commands of a
 /// script, and prints each output when it is emitted and in the end how the program stands. `check` prints the line of the memory alone,
-/// and `tidy` the program in the printer's form. A text that breaks a rule which the mode asks is refused by the first. `show` takes the file as
+/// `list` behind it where the slots lie and which gates the statements have, and `tidy` the program in the printer's form. A text that breaks a rule which the mode asks is refused by the first. `show` takes the file as
 /// a compiled image and prints its listing; bytes that are no image are refused with the length of their longest beginning of one. Memory is
 /// wanted before the first byte is written and never later.
 pub fn ceu<S: Shelf, I: Source, O: Sink>(
@@ -106,6 +107,7 @@ fn on_text<I: Source, O: Sink>(
     match mode {
         Mode::Run => run_text(alloc, text, input, out),
         Mode::Check => check_text(alloc, text, out),
+        Mode::List => list_text(alloc, text, out),
         Mode::Tidy => tidy_text(alloc, text, out),
         Mode::Show => show_bytes(alloc, text, out),
     }

@@ -9,6 +9,8 @@ pub enum Mode {
     Run,
     /// The memory line of a program that breaks no rule.
     Check,
+    /// The memory line of such a program, and behind it where its slots lie and which gates its statements have.
+    List,
     /// The program in the printer's form. The rules on tokens and on grammar alone are asked.
     Tidy,
     /// The listing of the file as a compiled image.
@@ -23,6 +25,8 @@ fn mode_of(name: &str) -> Option<Mode>
         Some(Mode::Run)
     } else if name == "check" {
         Some(Mode::Check)
+    } else if name == "list" {
+        Some(Mode::List)
     } else if name == "tidy" {
         Some(Mode::Tidy)
     } else if name == "show" {

@@ -1,9 +1,11 @@
 // What is known before the first byte is written whole, or up to the failure of the sink.
-ghost use Rattle.std.specs.Prelude.{◌≡◌};
+ghost use Rattle.std.specs.Prelude.{◌≡◌, ◌++◌};
 ghost use Rattle.ceu_run.specs.Lines.{memory_line};
 ghost use Rattle.ceu_top.specs.Answering as spec;
 ghost use Rattle.ceu_top.specs.Answering.{IsWritten};
 ghost use Rattle.ceu_code.specs.Spelling.{HasSpelling};
+ghost use Rattle.ceu_listing.specs.Lines.{listing_text};
+ghost use Rattle.ceu_tree.specs.Proper.{Proper};
 ghost use Rattle.ceu_show.specs.Shown as shown;
 ghost use Rattle.ceu_top.specs.Lines.{refusal_line, no_image_line};
 
@@ -13,9 +15,12 @@ use crate::status::Status;
 use ceu_base::{Pos, Rule};
 use ceu_code::Image;
 use ceu_compile::Program;
+use ceu_gates::GatePlan;
 use ceu_io::{Failed, Sink};
+use ceu_listing::listing;
 use ceu_run::write_memory;
 use ceu_show::show;
+use ceu_slots::{OverlapPlaces, Places};
 
 fn status_of(written: Result<(), Failed>, whole: Status) -> Status
     ensures { result ≡ spec.status_of written whole }
@@ -40,6 +45,24 @@ pub(crate) fn show_memory<O: Sink>(program: &Program, out: &mut O) -> Status
     let bounds = program.bounds;
     let written = write_memory(out, program.memory, bounds.turns, bounds.levels);
     status_of(written, Status::Done)
+}
+
+/// Writes the memory line of a program, and behind it the listing of its kernel.
+pub(crate) fn show_listing<O: Sink>(
+    program: &Program,
+    places: &OverlapPlaces,
+    gates: &GatePlan,
+    out: &mut O,
+) -> Status
+    requires proper { Proper program.now.kernel }
+    requires fits { ⟦<OverlapPlaces as Places>⟧.fits places.now program.now.kernel }
+    ensures { IsWritten (memory_line program.now.memory program.now.bounds.turns program.now.bounds.levels ++ listing_text (⟦<OverlapPlaces as Places>⟧.planned places.now) gates.now program.now.kernel) Status.Done result (O.held out.old) (O.held out.new) (O.faults out.old) (O.faults out.new) }
+{
+    let bounds = program.bounds;
+    match write_memory(out, program.memory, bounds.turns, bounds.levels) {
+        Ok(()) => status_of(listing(&program.kernel, places, gates, out), Status::Done),
+        Err(_) => Status::Write,
+    }
 }
 
 /// Writes the lines of a text.

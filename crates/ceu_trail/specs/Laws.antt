@@ -11,6 +11,7 @@ use Rattle.ceu_tree.specs.World.{World}
 use Rattle.ceu_tree.specs.Run.{Turning}
 use Rattle.ceu_legal.specs.Shape.{Part, Around, TurnFits, program_part}
 use Rattle.ceu_values.specs.Needed.{Valued}
+use Rattle.ceu_endings.specs.Counted.{Counted}
 use Rattle.ceu_shape.specs.Plans.{Plan}
 use Rattle.ceu_trail.specs.Built.{PartBuilt}
 use Rattle.ceu_trail.specs.Compiled.{Compiled}
@@ -32,6 +33,6 @@ PartsAreBuilt =
 abbrev pub StepsAreDone : Type 0
 StepsAreDone =
     (image : Image) (P : Plan) (width : ℕ → ℕ) (K : Kernel) (f : Focus Act) (w : World) (r : Registers) (m : Machine)
-    → Compiled image P width K → TurnFits K 1 (program_part K) f → Valued (Turning 0 f w) → TurnWithin K f w
+    → Compiled image P width K → TurnFits K 1 (program_part K) f → Valued (Turning 0 f w) → Counted (Turning 0 f w) → TurnWithin K f w
     → TurnStands image P width K f w r m.bytes
     → Comes image P width K w r m (stepped K 0 Program f w).outcome (stepped K 0 Program f w).world

@@ -4,6 +4,9 @@ use Rattle.ceu_top.proofs.top.on_text.Goals as goal
 pub returns-in-Check-clause-answer : goal.returns-in-Check-clause-answer
 returns-in-Check-clause-answer g c = rw c.in-Check.is (text_printed c.check_text.ensures)
 
+pub returns-in-List-clause-answer : goal.returns-in-List-clause-answer
+returns-in-List-clause-answer g c = rw c.in-List.is (text_printed c.list_text.ensures)
+
 pub returns-in-Tidy-clause-answer : goal.returns-in-Tidy-clause-answer
 returns-in-Tidy-clause-answer g c = rw c.in-Tidy.is (text_printed c.tidy_text.ensures)
 
