@@ -106,14 +106,16 @@ module _ (P : Plan) (K : Kernel) (names : List (List ℕ)) (lines : List Line) (
       let z = and_parts (list_all (is_parameter K names) c.params) (nat_le (length c.params) 255) y.0 in
       let few = leb-true (length c.params) 255 z.1 in
       let frame = frames k in
-      let count = counts (node_of_block c.body) (body_here P K c.body there.0) in
-      (record {
-        entry = omega (arith, offset_within (own_label (node_of_block c.body)) lines, short);
-        frame = omega (arith, frame);
-        gates = omega (arith, count);
-        few = omega (arith, few, params_length c.params);
-        typed = params_typed K names c.params z.0;
-      }, rows_formed (k + 1) (j + 1) cs x.1 there.1)
+      let count = counts (node_of_block c.body) (body_here P K c.body there.0) in (
+        record {
+          entry = omega (arith, offset_within (own_label (node_of_block c.body)) lines, short);
+          frame = omega (arith, frame);
+          gates = omega (arith, count);
+          few = omega (arith, few, params_length c.params);
+          typed = params_typed K names c.params z.0;
+        },
+        rows_formed (k + 1) (j + 1) cs x.1 there.1,
+      )
 
   pub rows_length : (k : ℕ) (cs : List KCode) → length (code_rows P lines k cs) ≡ length cs
   rows_length k [] = refl
