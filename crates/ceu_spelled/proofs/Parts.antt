@@ -1,5 +1,5 @@
 -- The ports and the codes of an image have spellings.
-use Rattle.std.proofs.Common.{◌≡◌, ◌≢◌, refl, Some, ℕ, suc, ◌+◌, ◌^◌, ◌<◌, ◌≤◌, Bool, true, false, not, ◌&&◌, ◌||◌, if◌then◌else◌, ◌==◌, IsTrue, nat_le, nat_lt, List, [], ◌∷◌, ◌++◌, length, map, arith}
+use Rattle.std.proofs.Common.{◌≡◌, ◌≢◌, refl, Some, ℕ, ◌+◌, ◌^◌, ◌<◌, ◌≤◌, Bool, true, false, not, ◌&&◌, if◌then◌else◌, IsTrue, nat_le, nat_lt, List, [], ◌∷◌, length, map, arith}
 use Rattle.std.specs.List.{AllByRecursion, list_all, list_any}
 use Rattle.std.proofs.lemmas.Bool.{and_parts, leb-true, ltb-true}
 use Rattle.ceu_base.specs.declared.kinds.Port.{Port}
@@ -17,7 +17,7 @@ use Rattle.ceu_tree.specs.Proper.{ports_ok, is_external, is_external_letter, sam
 use Rattle.ceu_tree.specs.Typing.{same_ty}
 use Rattle.ceu_asm.specs.declared.line.Line.{Line}
 use Rattle.ceu_asm.specs.Lines.{is_mark, line_size, code_size, offset_of}
-use Rattle.ceu_code.specs.Spelling.{is_capital, is_name_byte, IsExternalName, IsPort, IsCodeRow}
+use Rattle.ceu_code.specs.Spelling.{is_name_byte, IsExternalName, IsPort, IsCodeRow}
 use Rattle.ceu_shape.specs.Plans.{Plan, own_label}
 use Rattle.ceu_shape.specs.Searches.{node_of_block, PoolRow}
 use Rattle.ceu_shape.specs.Shape.{param_ty, code_rows, pool_code}

@@ -1,9 +1,8 @@
 -- The image of a proper kernel has a spelling.
-use Rattle.std.proofs.Common.{◌≡◌, refl, sym, ap, ◌∙◌, ℕ, ◌+◌, ◌*◌, ◌^◌, ◌<◌, ◌≤◌, Bool, ◌&&◌, List, [], ◌∷◌, ◌++◌, length, map, arith, subst}
+use Rattle.std.proofs.Common.{◌≡◌, refl, ◌+◌, ◌*◌, ◌≤◌, Bool, List, [], ◌++◌, length, arith}
 use Rattle.std.specs.List.{AllByRecursion}
 use Rattle.std.proofs.lemmas.Bool.{and_parts}
 use Rattle.std.proofs.lemmas.List.{length-map}
-use Rattle.ceu_base.specs.declared.kinds.Port.{Port}
 use Rattle.ceu_tree.specs.declared.kernel.Kernel.{Kernel}
 use Rattle.ceu_tree.specs.Depth.{depth}
 use Rattle.ceu_tree.specs.Mentions.{outer_names_from}
@@ -11,15 +10,13 @@ use Rattle.ceu_tree.specs.Needs.{memory, gates, gates_from, slots}
 use Rattle.ceu_tree.specs.Numbering.{is_numbered}
 use Rattle.ceu_tree.specs.Proper.{Proper, is_proper, ports_ok, events_ok}
 use Rattle.ceu_asm.specs.declared.line.Line.{Line}
-use Rattle.ceu_asm.specs.Lines.{code_size, assembled}
+use Rattle.ceu_asm.specs.Lines.{code_size}
 use Rattle.ceu_asm.proofs.Following.{length-assembled}
 use Rattle.ceu_asm.proofs.Tabled.{whole_code}
-use Rattle.ceu_code.specs.Spelling.{IsPort, IsPlace, HasSpelling}
+use Rattle.ceu_code.specs.Spelling.{IsPort}
 use Rattle.ceu_shape.specs.Plans.{Plan}
 use Rattle.ceu_shape.specs.Searches.{kernel_pools}
-use Rattle.ceu_shape.specs.Shape.{shape_lines, shape_positions, pool_code, shape}
-use Rattle.ceu_slots.specs.Plans.{Planned}
-use Rattle.ceu_gates.specs.declared.plan.GatePlan.{GatePlan}
+use Rattle.ceu_shape.specs.Shape.{shape_lines, pool_code, shape}
 use Rattle.ceu_placed.specs.Fits.{PlanFits}
 use Rattle.ceu_placed.proofs.AllThere.{names_there}
 use Rattle.ceu_placed.proofs.Counted.{kernel_counts}
@@ -28,7 +25,7 @@ use Rattle.ceu_placed.proofs.Operands.{made_plans_fit, operands_in_range}
 use Rattle.ceu_placed.proofs.Slots.{all_split}
 use Rattle.ceu_placed.proofs.Whole.{body_proper}
 use Rattle.ceu_codegen.proofs.Whole.{rows_fit}
-use Rattle.ceu_spelled.specs.Laws.{plan, IsSmall, ArePlans, AreLimits, ImagesAreSpelled}
+use Rattle.ceu_spelled.specs.Laws.{plan, ImagesAreSpelled}
 use Rattle.ceu_spelled.proofs.Parts.{ports_formed, rows_formed, rows_length, pools_formed, block_some}
 
 some_depth : (K : Kernel) → 1 ≤ depth K
