@@ -4,3 +4,4 @@ mod Parsing
 mod Resolving
 mod SizeCuts
 mod Proper
+mod Imaged

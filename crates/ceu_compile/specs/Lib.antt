@@ -3,3 +3,4 @@ pub mod Resolved
 pub mod Sizes
 pub mod Trees
 pub mod Programs
+pub mod Images
