@@ -35,6 +35,7 @@ use Rattle.ceu_stands.specs.Views.{view}
 use Rattle.ceu_trail.specs.Built.{at_label, StatementBuilt}
 use Rattle.ceu_trail.specs.Compiled.{Compiled}
 use Rattle.ceu_trail.specs.Coming.{Comes}
+use Rattle.ceu_trail.specs.Parts.{GatesAt}
 use Rattle.ceu_trail.specs.Tables.{tables}
 use Rattle.ceu_trail.specs.Turning.{MemoryHolds}
 use Rattle.ceu_steps.specs.Running.{Runs, trail_at}
@@ -74,13 +75,16 @@ target_is s l body e = ap target_of e
 
 module _ (laws : BuiltLaws) (image : Image) (P : Plan) (width : ℕ → ℕ) (K : Kernel) (compiled : Compiled image P width K) where
   -- the abort finds no gate
-  pub abort_runs : {o2 : List Frame} {t2 : Bool} {sc2 : Scope} {b2 : KBlock} {done2 rest2 : List KNode} {s : KNode} (left at : ℕ) (w : World) (m : Machine) → Standing K o2 t2 sc2 b2 done2 rest2 s → left ≡ s.node → MemoryHolds image P width K w m.bytes
-      → fetched image at ≡ Some (instr.AbortGates (P.first left) (P.count left)) → Runs image 2 (Trail (trail_at image at 0) m) (Trail (trail_at image (at + 5) 0) m)
-  abort_runs {s = s} left at w m spot e holds f =
-      let g = gates laws image P width K compiled spot in
-      let first : P.first left ≡ 0 = ap P.first e ∙ g.first_is in
-      let count : P.count left ≤ image.gates = subst (λ (k : ℕ). P.count k ≤ image.gates) (sym e) g.within in
+  pub abort_by : (left at : ℕ) (w : World) (m : Machine) → GatesAt image P left → MemoryHolds image P width K w m.bytes → fetched image at ≡ Some (instr.AbortGates (P.first left) (P.count left))
+      → Runs image 2 (Trail (trail_at image at 0) m) (Trail (trail_at image (at + 5) 0) m)
+  abort_by left at w m g holds f =
+      let first : P.first left ≡ 0 = g.first_is in
+      let count : P.count left ≤ image.gates = g.within in
       abort_goes_on image (P.first left) (P.count left) (trail_at image at 0) m f refl (omega (arith, first, count)) (gates_free image P width K w m.bytes holds)
+
+  -- those of a do
+  pub do_gates : {o2 : List Frame} {t2 : Bool} {sc2 : Scope} {b2 : KBlock} {done2 rest2 : List KNode} {s : KNode} (left : ℕ) → Standing K o2 t2 sc2 b2 done2 rest2 s → left ≡ s.node → GatesAt image P left
+  do_gates left spot e = subst (λ (k : ℕ). GatesAt image P k) (sym e) (gates laws image P width K compiled spot)
 
   bare_does : (n : ℕ) (p : Pos) (left : ℕ) (w : World) → acted K 0 Program (Start (bare n p left)) w ≡ does.done (does.Leaves left (Escape (pos 0))) w
   unfolding out-KStmt Carrier.out
@@ -128,14 +132,13 @@ module _ (laws : BuiltLaws) (image : Image) (P : Plan) (width : ℕ → ℕ) (K 
         → AllCount (tables P width K) image (view image m.bytes) (OfBlock b2 [] no_instance rest2 ∷ o2) → wrap frames (Here (Start this)) ≡ wrap (OfOpen s ∷ OfBlock b2 [] no_instance rest2 ∷ o2) g
         → StepDone image P width K frames (Start this) w (at_label image P K (own_label n)) m
     by {o2 = o2} {b2 = b2} {done2 = done2} {rest2 = rest2} {s = s} body g h lines spot is e r counts same =
-        let v : World = aborted (plug g Over) Program w in
         let on = passed_on laws image P width K compiled o2 b2 done2 rest2 s w (aborted (plug g Over) Program w) m (at_label image P K (own_label n)) spot.block spot.is
         (record {
           after = m;
           count = 3;
           few = omega arith;
           runs = subst (λ (k : ℕ). Runs image 3 (Trail (trail_at image (at_label image P K (own_label n)) 0) m) (Trail (trail_at image (at_label image P K (end_label k)) 0) m)) e
-              (onward (abort_runs left (at_label image P K (own_label n)) w m spot e h.stands.memory lines.aborts) (goto_runs (at_label image P K (end_label left)) lines.goes));
+              (onward (abort_by left (at_label image P K (own_label n)) w m (do_gates left spot e) h.stands.memory lines.aborts) (goto_runs (at_label image P K (end_label left)) lines.goes));
           marks = record { added = []; semantics = r.marks ∙ sym (append-nil w.marks); machine = sym (append-nil m.marks) };
           memory = holds_fades image P width K w (aborted (plug g Over) Program w) m.bytes r.fades h.stands.memory;
           counts = counts.1;

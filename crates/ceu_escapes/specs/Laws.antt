@@ -1,12 +1,12 @@
--- The law on steps of programs of one trail, for escapes.
-use Rattle.std.specs.Prelude.{◌≡◌, ◌≢◌, ℕ, Bool, List, [], ◌∷◌, Option, Some, None}
+-- The laws on steps of programs of one trail, for escapes.
+use Rattle.std.specs.Prelude.{◌≡◌, ℕ, Bool, List, [], ◌∷◌, Option, Some, None}
 use Rattle.ceu_base.specs.declared.kinds.Pos.{Pos}
 use Rattle.ceu_code.specs.declared.image.Image.{Image}
 use Rattle.ceu_isa.specs.Turns.{Machine}
 use Rattle.ceu_tree.specs.declared.kernel.Kernel.{Kernel}
 use Rattle.ceu_tree.specs.declared.kernel.KExp.{KExp}
 use Rattle.ceu_tree.specs.declared.kernel.KNode.{KNode}
-use Rattle.ceu_tree.specs.declared.kernel.KBlock.{KBlock, out-KBlock}
+use Rattle.ceu_tree.specs.declared.kernel.KBlock.{KBlock}
 use Rattle.ceu_tree.specs.declared.kernel.KStmt as kernel
 use Rattle.ceu_tree.specs.declared.kernel.KStmt.{out-KStmt}
 use Rattle.ceu_tree.specs.declared.kernel.KStmt.TheOpen.{KStmt-F}
@@ -45,10 +45,9 @@ TargetsAreFound =
     (image : Image) (P : Plan) (width : ℕ → ℕ) (K : Kernel) → Compiled image P width K → (frames : List Frame) (sc : Scope) (s : KNode) (l : Option Loc) (body : KBlock)
     → Reached K frames (AStatement sc s) → out-KStmt s.stmt ≡ KStmt-F.Do l body → escape_target K s.node ≡ l
 
--- One step of a turn is done by the machine where an escape with a value begins that leaves a do, where its lines find the target.
+-- One step of a turn is done by the machine where an escape with a value begins.
 abbrev pub ValueEscapesAreDone : Type 0
 ValueEscapesAreDone =
-    TargetsAreFound → BuiltLaws → (image : Image) (P : Plan) (width : ℕ → ℕ) (K : Kernel) → Compiled image P width K
+    BuiltLaws → (image : Image) (P : Plan) (width : ℕ → ℕ) (K : Kernel) → Compiled image P width K
     → (outer : List Frame) (turn : Bool) (sc : Scope) (b : KBlock) (done rest : List KNode) (n : ℕ) (p : Pos) (left : ℕ) (e : KExp) (w : World) (at : ℕ) (m : Machine)
-    → left ≢ (out-KBlock K.body).node → AtStart image P width K outer turn sc b done rest (valued n p left e) w at m
-    → StepDone image P width K (OfBlock b [] no_instance rest ∷ outer) (Start (valued n p left e)) w at m
+    → AtStart image P width K outer turn sc b done rest (valued n p left e) w at m → StepDone image P width K (OfBlock b [] no_instance rest ∷ outer) (Start (valued n p left e)) w at m

@@ -1,5 +1,5 @@
 // Laws on the programs that run.
-ghost use Rattle.ceu_forms.specs.Laws.{SinglesRun, WhatRunsIsSingle};
+ghost use Rattle.ceu_forms.specs.Laws.{SinglesHaveOneGate, SinglesRun, WhatRunsIsSingle};
 
 /// A program in which no statement is found whose form doesn't run is one of one trail, with short names and few inputs.
 pub fn what_runs_is_single()
@@ -9,4 +9,9 @@ pub fn what_runs_is_single()
 /// In such a program none is found.
 pub fn singles_run()
     ensures { SinglesRun }
+{}
+
+/// It has one gate, which its statements share.
+pub fn singles_have_one_gate()
+    ensures { SinglesHaveOneGate }
 {}

@@ -32,7 +32,7 @@ module _ (image : Image) (offset : ℕ → ℕ) (l : Labels) where
   leaves k (suc count) z at h = leaves (k + 2) count z at h.1
 
   -- the labels of the parts from one on are those of these arms, and of the last block
-  abbrev Labelled : {n : _} → (k fresh : ℕ) → Row_of-KArm n → KBlock → Type 0
+  abbrev pub Labelled : {n : _} → (k fresh : ℕ) → Row_of-KArm n → KBlock → Type 0
   Labelled k fresh rows last = (i : ℕ) → slice_index l.parts (2 * k + i) ≡ slice_index (arms_labels fresh rows ++ block_labels last) i
 
   ends_leave : {n : _} (rows : Row_of-KArm n) (last b : KBlock) (k fresh z at : ℕ) → Labelled k fresh rows last → z ≡ k + 2 * arm_count rows → Ends k (arm_count rows) z at

@@ -1,4 +1,6 @@
 pub mod Many
 pub mod Arms
+pub mod Conditions
+pub mod Starts
 pub mod Ends
 pub mod Knot

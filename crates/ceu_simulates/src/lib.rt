@@ -1,10 +1,20 @@
-//! Steps of turns of compiled programs of one trail, put together. The law is the contract of a function with an empty body.
+//! Compiled programs of one trail run as the reference semantics says. Each law is the contract of a function with an empty body.
 #![tactic(auto)]
 
-ghost use Rattle.ceu_simulates.specs.Laws.{MostStepsAreDone};
+ghost use Rattle.ceu_simulates.specs.Laws.{CompiledImagesAreSound, CompiledProgramsRun};
+ghost use Rattle.ceu_trail.specs.Laws.{StepsAreDone};
 
-/// What one step of the reference semantics does in a turn the machine does too, faults included, but where the leaf starts an `if`, a loop over a range
-/// or an `escape` with a value, or is at the head of a loop over a range.
-pub fn most_steps_are_done()
-    ensures { MostStepsAreDone }
+/// What one step of the reference semantics does in a turn the machine does too, whatever the leaf does, faults included.
+pub fn steps_are_done()
+    ensures { StepsAreDone }
+{}
+
+/// So a run of the machine on a compiled image has the marks and the outcome of the run by the reference semantics, whatever commands come,
+pub fn compiled_programs_run()
+    ensures { CompiledProgramsRun }
+{}
+
+/// and in no run of it anything is done that isn't allowed.
+pub fn compiled_images_are_sound()
+    ensures { CompiledImagesAreSound }
 {}
