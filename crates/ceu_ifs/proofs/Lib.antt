@@ -3,4 +3,3 @@ pub mod Arms
 pub mod Conditions
 pub mod Starts
 pub mod Ends
-pub mod Knot

@@ -2,7 +2,7 @@
 //! empty body.
 #![tactic(auto)]
 
-ghost use Rattle.ceu_ifs.specs.Laws.{IfStartsAreDone, IfStepsAreDone};
+ghost use Rattle.ceu_ifs.specs.Laws.{IfEndsAreDone, IfStartsAreDone};
 
 /// Where a turn of a program of one trail is at the start of an `if`, the machine does in few steps what the reference semantics does in one: it evaluates the
 /// conditions in their order, and goes to the block of the first one that is true, or to the last block; or it faults as the first condition that does.
@@ -10,8 +10,7 @@ pub fn if_starts_are_done()
     ensures { IfStartsAreDone }
 {}
 
-/// Where a turn stands in the memory and in the registers, and the leaf is at the end of a block that an `if` opened, the machine does in few steps what the
-/// reference semantics does in one: it goes on behind the `if`, and the turn stands there.
-pub fn if_steps_are_done()
-    ensures { IfStepsAreDone }
+/// So too at the end of a block that an `if` opened: it goes on behind the `if`.
+pub fn if_ends_are_done()
+    ensures { IfEndsAreDone }
 {}
