@@ -1,0 +1,5 @@
+pub mod Living
+pub mod Trees
+pub mod Up
+pub mod Leaf
+pub mod Places
