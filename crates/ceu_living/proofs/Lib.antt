@@ -3,3 +3,4 @@ pub mod Trees
 pub mod Up
 pub mod Leaf
 pub mod Places
+pub mod Spawns

@@ -75,10 +75,10 @@ kept_quiet n w u v m k a q = kept_then n w u v m k k a (kept_same n u v k q)
 
 -- ---- an instance that ends
 
-once_true : (n m : ℕ) → (n == m) ≡ true → once n m ≡ 1
+pub once_true : (n m : ℕ) → (n == m) ≡ true → once n m ≡ 1
 once_true n m e = ap (λ b. if b then 1 else 0) e
 
-once_false : (n m : ℕ) → (n == m) ≡ false → once n m ≡ 0
+pub once_false : (n m : ℕ) → (n == m) ≡ false → once n m ≡ 0
 once_false n m e = ap (λ b. if b then 1 else 0) e
 
 without_often : (n m : ℕ) (ms : List ℕ) (c : ℕ) → often n ms ≡ once n m + c → often n (without m ms) ≡ c

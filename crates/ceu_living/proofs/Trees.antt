@@ -6,7 +6,7 @@ use Rattle.ceu_tree.specs.declared.kernel.KBlock.{out-KBlock}
 use Rattle.ceu_tree.specs.Residual.{Seat, Residual, Over, Run, WaitInput, WaitTime, WaitEvent, WaitForever, InAsync, Block, Open, Loop, Call, Par, Branches, no_branch, branch, Instances, no_instance, instance}
 use Rattle.ceu_tree.specs.Focus.{Frame, OfBlock, OfInstance, OfOpen, OfLoop, OfCall, OfPar, Focus, Here, In, join, join_instances, fill, plug, graft, has_body}
 use Rattle.ceu_tree.specs.Wake.{each_leaf, each_in_branches, each_in_instances, each_in_body, woken}
-use Rattle.ceu_living.specs.Instances.{goes_before, pools_stand, each_pools_stand, seats_stand}
+use Rattle.ceu_living.specs.Instances.{is_before, goes_before, pools_stand, each_pools_stand, seats_stand}
 use Rattle.ceu_living.proofs.Living.{once, lives, live_branches, live_instances}
 
 -- ---- numbers
@@ -76,12 +76,12 @@ split_joined (branch q more) r back h = let a = split_joined more r back h.1 in 
 same_before : (other : Seat) (front : Instances) (seat : Seat) (q r : Residual) (back : Instances) → goes_before other (join_instances front (instance seat q back)) ≡ goes_before other (join_instances front (instance seat r back))
 same_before other no_instance seat q r back = refl
 same_before other (instance next p more) seat q r back =
-    ap (λ b. (nat_lt other.pool next.pool || ((other.pool == next.pool) && nat_lt other.number next.number && not (other.place == next.place))) && b) (same_before other more seat q r back)
+    ap (λ b. is_before other next && b) (same_before other more seat q r back)
 
 before_less : (other : Seat) (front : Instances) (seat : Seat) (q : Residual) (back : Instances) → goes_before other (join_instances front (instance seat q back)) ≡ true → goes_before other (join_instances front back) ≡ true
 before_less other no_instance seat q back h = (and_parts _ (goes_before other back) h).1
 before_less other (instance next p more) seat q back h =
-    let a = and_parts (nat_lt other.pool next.pool || ((other.pool == next.pool) && nat_lt other.number next.number && not (other.place == next.place))) (goes_before other (join_instances more (instance seat q back))) h in
+    let a = and_parts (is_before other next) (goes_before other (join_instances more (instance seat q back))) h in
     and_from _ _ a.0 (before_less other more seat q back a.1)
 
 seats_filled : (ds : List KDecl) (front : Instances) (seat : Seat) (q r : Residual) (back : Instances) → seats_stand ds (join_instances front (instance seat q back)) → pools_stand r → seats_stand ds (join_instances front (instance seat r back))
@@ -183,7 +183,7 @@ module _ (g : Residual → Residual) (calm : Calm g) where
   unfolding each_leaf
   each_before other no_instance = refl
   each_before other (instance next p more) =
-      ap (λ b. (nat_lt other.pool next.pool || ((other.pool == next.pool) && nat_lt other.number next.number && not (other.place == next.place))) && b) (each_before other more)
+      ap (λ b. is_before other next && b) (each_before other more)
 
   mutual
     unfolding pools_stand each_leaf

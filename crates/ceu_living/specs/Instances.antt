@@ -26,11 +26,13 @@ abbrev pub has_place : List KDecl → Seat → Bool
 has_place [] seat = false
 has_place (d ∷ ds) seat = elim d.kind [ kind.Pool n c ↦ ((d.slot == seat.pool) && (c == seat.code) && nat_lt seat.place n) | _ ↦ false ] || has_place ds seat
 
--- in lexical order of pools, in a pool by number, and at another place than each behind it
+-- in lexical order of pools, in a pool by number and at another place
+abbrev pub is_before : Seat → Seat → Bool
+is_before a b = nat_lt a.pool b.pool || ((a.pool == b.pool) && nat_lt a.number b.number && not (a.place == b.place))
+
 abbrev pub goes_before : Seat → Instances → Bool
 goes_before seat no_instance = true
-goes_before seat (instance other r more) =
-    (nat_lt seat.pool other.pool || ((seat.pool == other.pool) && nat_lt seat.number other.number && not (seat.place == other.place))) && goes_before seat more
+goes_before seat (instance other r more) = is_before seat other && goes_before seat more
 
 unfoldable mutual
   pub pools_stand : Residual → Type 0
