@@ -4,3 +4,5 @@ pub mod Up
 pub mod Leaf
 pub mod Places
 pub mod Spawns
+pub mod Homes
+pub mod Paths
