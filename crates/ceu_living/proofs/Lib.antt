@@ -6,3 +6,5 @@ pub mod Places
 pub mod Spawns
 pub mod Homes
 pub mod Paths
+pub mod Rooms
+pub mod Steps

@@ -23,7 +23,7 @@ OutcomeStands (Raises r) = pools_stand r
 OutcomeStands (Fails e r) = pools_stand r
 OutcomeStands x = Unit {0}
 
-abbrev Fine : Moved → Type 0
+abbrev pub Fine : Moved → Type 0
 Fine m = OutcomeStands m.outcome
 
 body_left_fine : (t : Bool) (b : KBlock) (fin : List KNode) (all : Instances) (f : Focus Act) (body : Body) (node : ℕ) (x : Exit) (w : World) → Fine (body_left t b fin all f body node x w)
