@@ -8,3 +8,4 @@ pub mod Homes
 pub mod Paths
 pub mod Rooms
 pub mod Steps
+pub mod Lists
