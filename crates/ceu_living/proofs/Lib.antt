@@ -9,3 +9,4 @@ pub mod Paths
 pub mod Rooms
 pub mod Steps
 pub mod Lists
+pub mod Evens
