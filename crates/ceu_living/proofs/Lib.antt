@@ -10,3 +10,4 @@ pub mod Rooms
 pub mod Steps
 pub mod Lists
 pub mod Evens
+pub mod Reactions
