@@ -11,3 +11,4 @@ pub mod Steps
 pub mod Lists
 pub mod Evens
 pub mod Reactions
+pub mod Commands
