@@ -1,40 +1,37 @@
 -- Commands and runs of a proper kernel keep the instances that live and their places.
-use Rattle.std.proofs.Common.{◌≡◌, refl, sym, ap, ◌∙◌, subst, ℕ, zero, suc, ◌+◌, ◌-◌, min, ℤ, pos, nat_le, Bool, true, false, if◌then◌else◌, ◌==◌, List, [], ◌∷◌, Option, Some, None, arith}
+use Rattle.std.proofs.Common.{◌≡◌, refl, sym, ap, subst, ℕ, zero, suc, ◌+◌, ◌-◌, ℤ, pos, nat_le, Bool, true, false, if◌then◌else◌, ◌==◌, List, [], ◌∷◌, Option, Some, None, arith}
 use Rattle.std.proofs.lemmas.Bool.{false≢true}
-use Rattle.ceu_base.specs.declared.kinds.Pos.{Pos}
-use Rattle.ceu_base.specs.declared.kinds.Fault.{Fault}
 use Rattle.ceu_tree.specs.declared.command.Command.{Command}
 use Rattle.ceu_tree.specs.declared.command.Command.TheVariants.{Input, Advance, Idle}
 use Rattle.ceu_tree.specs.declared.kernel.Kernel.{Kernel}
-use Rattle.ceu_tree.specs.declared.kernel.KNode.{KNode}
 use Rattle.ceu_tree.specs.declared.kernel.KBlock.{KBlock}
 use Rattle.ceu_tree.specs.declared.kernel.KStmt.{out-KStmt}
 use Rattle.ceu_tree.specs.declared.kernel.KStmt.TheOpen.{KStmt-F}
-use Rattle.ceu_tree.specs.Residual.{Body, Program, Act, Finish, Again, Residual, Over, Run, WaitInput, WaitTime, WaitEvent, WaitForever, InAsync, Block, Open, Loop, Call, Par}
+use Rattle.ceu_tree.specs.Residual.{Body, Program, Act, Finish, Again, Residual, Run, WaitInput, WaitTime, InAsync}
 use Rattle.ceu_tree.specs.Focus.{Focus, plug, leaf, body_of, choose}
 use Rattle.ceu_tree.specs.World.{World}
 use Rattle.ceu_tree.specs.Wake.{each_leaf, leaves, runs_at, by_input, later, by_time, least_time, Unserved, unserved, new_round}
 use Rattle.ceu_tree.specs.Leaf as does
 use Rattle.ceu_tree.specs.Leaf.{Does, acted}
-use Rattle.ceu_tree.specs.Around.{Outcome, Goes, Rests, Raises, Fails, Past, Registers, AtBlockEnd, AtLoopHead, Ends, Leaves, Moved}
+use Rattle.ceu_tree.specs.Around.{Outcome, Goes, Rests, Raises, Fails, Past, Registers, AtBlockEnd, AtLoopHead, Ends, Leaves}
 use Rattle.ceu_tree.specs.Step.{stepped}
 use Rattle.ceu_tree.specs.Proper.{Scope, is_proper}
 use Rattle.ceu_tree.specs.Run.{Config, Turning, Between, Waiting, Ended, Faulted, steps, booted, reacts, input, advance, is_again, Served, Unfinished, Turned, Done, Failed, serve, serve_first, after_serving, served, idle_turn, idle_turns, done, all_done, run}
-use Rattle.ceu_laws.proofs.FocusBalance.{Found, FoundIn, choose_found}
+use Rattle.ceu_laws.proofs.FocusBalance.{FoundIn, choose_found}
 use Rattle.ceu_legal.specs.Shape.{Part, ABlock, AStatement, program_part, async_scope, pauses, Fits, to_finish, Around, TurnFits, in_trail, Comes, ConfigFits}
 use Rattle.ceu_legal.proofs.Fits.{around_raised, plug_fits}
 use Rattle.ceu_legal.proofs.Leaves.{leaves_fit, by_input_fits, by_time_fits, later_fits, round_fits}
-use Rattle.ceu_legal.proofs.Choice.{ChosenFits, ChoiceFits, choice_fits}
+use Rattle.ceu_legal.proofs.Choice.{ChoiceFits, choice_fits}
 use Rattle.ceu_legal.proofs.UpFits.{Sound, layer_of}
 use Rattle.ceu_legal.proofs.StepFits.{Closed, around_sound, around_trail, stepped_fits}
-use Rattle.ceu_legal.proofs.RunFits.{root_sound, turn_of_chosen, steps_fit, booted_fits, AsyncLeaf, async_leaf, idle_turn_fits, done_fits}
+use Rattle.ceu_legal.proofs.RunFits.{root_sound, turn_of_chosen, steps_fit, booted_fits, async_leaf, idle_turn_fits, done_fits}
 use Rattle.ceu_living.specs.Instances.{pools_stand}
-use Rattle.ceu_living.proofs.Living.{often, lives}
+use Rattle.ceu_living.proofs.Living.{lives}
 use Rattle.ceu_living.proofs.Trees.{live_focus, focus_stands, plug_lives, plugged, Calm, each_lives, leaves_stand}
 use Rattle.ceu_living.proofs.Up.{left_whole}
 use Rattle.ceu_living.proofs.Places.{OutcomeStands}
 use Rattle.ceu_living.proofs.Rooms.{Room, acted_room}
-use Rattle.ceu_living.proofs.Steps.{Given, SpawnFine, stepped_moves, stepped_stands}
+use Rattle.ceu_living.proofs.Steps.{SpawnFine, stepped_moves, stepped_stands}
 use Rattle.ceu_living.proofs.Lists.{Counts}
 use Rattle.ceu_living.proofs.Reactions.{ConfigCounts, counts_same, counts_moved, focus_low, chosen_lives, found_stands, steps_counts, booted_counts}
 
@@ -235,9 +232,10 @@ module _ (K : Kernel) (proper : is_proper K ≡ true) where
       → focus_stands g → TreeCounts r w → ServedCounts (λ p. live_focus p g) x → ConfigCounts (after_serving K k g x r w)
   unfolding lives pools_stand
   after_counts k g Unfinished r w sc b a e st h s = h
-  after_counts k g (Turned q u) r w sc b a e st h s =
-      (counts_same (λ p. lives p q + live_focus p g) (λ p. lives p (plug g (InAsync (leaf g).stmt true q))) u u (record { living = refl; given = refl }) (λ p. (let z = plug_lives p g (InAsync (leaf g).stmt true q) in omega (arith, z))) s.0,
-      plugged g (InAsync (leaf g).stmt true q) st s.1)
+  after_counts k g (Turned q u) r w sc b a e st h s = (
+    counts_same (λ p. lives p q + live_focus p g) (λ p. lives p (plug g (InAsync (leaf g).stmt true q))) u u (record { living = refl; given = refl }) (λ p. (let z = plug_lives p g (InAsync (leaf g).stmt true q) in omega (arith, z))) s.0,
+    plugged g (InAsync (leaf g).stmt true q) st s.1,
+  )
   after_counts k g (Done u) r w sc b a e st h s =
       reacts_counts k (plug g (Run 0 (Finish (leaf g).stmt (pos 0)))) u (plug_fits K (around_raised K (omega arith) a) (to_finish (omega arith) (ap pauses e)))
       (counts_same (λ p. 0 + live_focus p g) (λ p. lives p (plug g (Run 0 (Finish (leaf g).stmt (pos 0))))) u u (record { living = refl; given = refl }) (λ p. (let z = plug_lives p g (Run 0 (Finish (leaf g).stmt (pos 0))) in omega (arith, z))) s, plugged g _ st tt)

@@ -1,5 +1,5 @@
 -- In a tree that fits a proper kernel no instance is inside an async, so the list of its numbers has each as often as it is an instance there.
-use Rattle.std.proofs.Common.{◌≡◌, refl, sym, ap, ◌∙◌, subst, ℕ, ◌+◌, Bool, true, false, List, [], ◌∷◌, ◌++◌, arith}
+use Rattle.std.proofs.Common.{◌≡◌, refl, sym, ap, ◌∙◌, ℕ, ◌+◌, true, false, List, [], ◌∷◌, ◌++◌, arith}
 use Rattle.std.proofs.lemmas.Bool.{false≢true}
 use Rattle.ceu_tree.specs.declared.kernel.Kernel.{Kernel}
 use Rattle.ceu_tree.specs.declared.kernel.KLoop.{KLoop}
@@ -8,15 +8,15 @@ use Rattle.ceu_tree.specs.declared.kernel.ParKind.{ParKind}
 use Rattle.ceu_tree.specs.declared.kernel.KBlock.{KBlock}
 use Rattle.ceu_tree.specs.declared.kernel.KStmt.{out-KStmt}
 use Rattle.ceu_tree.specs.declared.kernel.KStmt.TheOpen.{KStmt-F}
-use Rattle.ceu_tree.specs.Residual.{Body, Awaited, Spawned, Act, Seat, Residual, Over, Branches, no_branch, branch, Instances, no_instance, instance}
-use Rattle.ceu_tree.specs.Focus.{Frame, OfBlock, OfInstance, OfPar, Focus, Here, In, join, join_instances, fill, plug}
+use Rattle.ceu_tree.specs.Residual.{Body, Awaited, Spawned, Act, Seat, Residual, Over, Branches, branch, Instances, instance}
+use Rattle.ceu_tree.specs.Focus.{Frame, OfBlock, OfInstance, OfPar, Focus, In, join, join_instances, fill, plug}
 use Rattle.ceu_tree.specs.Leaf.{Layer}
 use Rattle.ceu_tree.specs.Legal.{Seated, seats, branch_seats, instance_seats, numbers}
 use Rattle.ceu_tree.specs.Proper.{Scope, is_trail, is_proper}
-use Rattle.ceu_legal.specs.Shape.{Part, ABlock, AStatement, AnEnd, part_scope, turn_scope, async_scope, opens_part, Fits, to_begin, to_turn, in_list, to_finish, at_input, at_time, at_event, at_forever, at_async, in_part, in_turn, in_call, in_par, EachFits, no_more, an_ended, a_branch, AllFit, none_lives, one_lives, FrameFits, around_statement, around_end, around_instance, around_part, around_turn, around_call, around_branch, Around, nothing_around, one_around}
+use Rattle.ceu_legal.specs.Shape.{Part, ABlock, AStatement, AnEnd, part_scope, turn_scope, opens_part, Fits, to_begin, to_turn, in_list, to_finish, at_input, at_time, at_event, at_forever, at_async, in_part, in_turn, in_call, in_par, EachFits, no_more, an_ended, a_branch, AllFit, none_lives, one_lives, FrameFits, around_statement, around_end, around_instance, around_part, around_turn, around_call, around_branch, Around, nothing_around, one_around}
 use Rattle.ceu_legal.proofs.Static.{names_of, code_static, each_fine}
 use Rattle.ceu_legal.proofs.UpFits.{Sound, layer_of, list_sound, part_sound, frame_sound}
-use Rattle.ceu_living.proofs.Living.{once, often, lives, live_branches, live_instances}
+use Rattle.ceu_living.proofs.Living.{often, lives, live_branches, live_instances}
 use Rattle.ceu_living.proofs.Lists.{often_append, numbers_append}
 
 module _ (K : Kernel) (proper : is_proper K ≡ true) (n : ℕ) where

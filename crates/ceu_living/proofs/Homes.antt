@@ -1,5 +1,5 @@
 -- The slots of the program's own body and of each code lie apart, and what a place says of code that is used there.
-use Rattle.std.proofs.Common.{◌≡◌, refl, sym, ap, ◌∙◌, subst, ◌<◌, ◌≤◌, ℕ, zero, suc, ◌+◌, ◌^◌, Bool, true, false, not, if◌then◌else◌, ◌==◌, ◌&&◌, ◌||◌, ◌⊎◌, inl, inr, nat_lt, nat_le, List, [], ◌∷◌, ◌++◌, length, length-append, Option, Some, None, arith, eqb-true}
+use Rattle.std.proofs.Common.{◌≡◌, refl, ap, subst, ◌<◌, ◌≤◌, ℕ, zero, suc, ◌+◌, ◌^◌, Bool, true, false, not, if◌then◌else◌, ◌==◌, ◌&&◌, ◌⊎◌, inl, inr, nat_lt, nat_le, List, [], ◌∷◌, ◌++◌, length, length-append, Option, Some, None, arith, eqb-true}
 use Rattle.std.proofs.lemmas.Bool.{and_parts, or_cases, false≢true, ltb-true, lt-ltb}
 use Rattle.std.specs.List.{list_all}
 use Rattle.ceu_base.specs.declared.kinds.Ty.TheVariants as ty
@@ -18,7 +18,7 @@ use Rattle.ceu_tree.specs.Numbering.{counts_from, block_nodes, decl_slots, block
 use Rattle.ceu_tree.specs.Mentions.{outer_names_from, all_set}
 use Rattle.ceu_tree.specs.Leaf.{Layer, code_at}
 use Rattle.ceu_tree.specs.Typing.{same_ty}
-use Rattle.ceu_tree.specs.Proper.{Scope, Seen, SlotKind, IsPool, find, declared_seen, slot_kind, is_trail, outside_finalizers, is_above, on_code, is_pool_of, alias_takes, gives_all, takes_if, decl_ok, stmt_ok, block_ok, nodes_ok, with_decls, body_scope, is_parameter, codes_ok, events_ok, ports_ok, is_proper}
+use Rattle.ceu_tree.specs.Proper.{Scope, IsPool, find, declared_seen, slot_kind, is_trail, outside_finalizers, is_above, on_code, is_pool_of, alias_takes, gives_all, takes_if, decl_ok, stmt_ok, block_ok, nodes_ok, with_decls, body_scope, is_parameter, codes_ok, events_ok, ports_ok, is_proper}
 use Rattle.ceu_values.specs.Ground.{Ground, Numbered}
 use Rattle.ceu_values.proofs.Counts.{counts_parts}
 use denote.Hole.Carrier

@@ -12,3 +12,4 @@ pub mod Lists
 pub mod Evens
 pub mod Reactions
 pub mod Commands
+pub mod Runs

@@ -1,28 +1,26 @@
 -- Of the parts around the leaf that spawns, one has the spawn's pool.
-use Rattle.std.proofs.Common.{◌≡◌, refl, sym, ap, ◌∙◌, subst, ◌<◌, ◌≤◌, ℕ, suc, ◌+◌, Bool, true, false, if◌then◌else◌, ◌==◌, ◌&&◌, ◌||◌, ◌⊎◌, inl, inr, nat_lt, List, [], ◌∷◌, ◌++◌, length, Option, Some, None, arith, eqb-true, eq-eqb}
-use Rattle.std.proofs.lemmas.Bool.{and_from, or_left, or_right, false≢true, lt-ltb}
+use Rattle.std.proofs.Common.{◌≡◌, refl, sym, ap, ◌∙◌, subst, ◌<◌, ◌≤◌, ℕ, ◌+◌, Bool, true, false, if◌then◌else◌, ◌==◌, ◌&&◌, ◌||◌, ◌⊎◌, inl, inr, nat_lt, List, [], ◌∷◌, ◌++◌, length, Option, Some, None, arith, eqb-true, eq-eqb}
+use Rattle.std.proofs.lemmas.Bool.{and_from, or_left, or_right, lt-ltb}
 use Rattle.ceu_tree.specs.declared.kernel.Kernel.{Kernel}
-use Rattle.ceu_tree.specs.declared.kernel.KCode.{KCode}
 use Rattle.ceu_tree.specs.declared.kernel.KDecl.{KDecl}
 use Rattle.ceu_tree.specs.declared.kernel.KKind.{KKind}
 use Rattle.ceu_tree.specs.declared.kernel.KKind.TheVariants as kind
 use Rattle.ceu_tree.specs.declared.kernel.KLoop.{KLoop}
 use Rattle.ceu_tree.specs.declared.kernel.KLoop.TheVariants as turns
-use Rattle.ceu_tree.specs.declared.kernel.KNode.{KNode}
 use Rattle.ceu_tree.specs.declared.kernel.KBlock.{KBlock, out-KBlock}
 use Rattle.ceu_tree.specs.declared.kernel.KStmt.{out-KStmt}
 use Rattle.ceu_tree.specs.declared.kernel.KStmt.TheOpen.{KStmt-F}
-use Rattle.ceu_tree.specs.Residual.{Act, Seat}
-use Rattle.ceu_tree.specs.Focus.{Frame, OfBlock, OfInstance, OfOpen, OfLoop, OfCall, OfPar, Focus, Here, In}
+use Rattle.ceu_tree.specs.Residual.{Act}
+use Rattle.ceu_tree.specs.Focus.{Frame, OfBlock, OfInstance, OfOpen, OfLoop, OfCall, OfPar, Focus, In}
 use Rattle.ceu_tree.specs.World.{is_among}
-use Rattle.ceu_tree.specs.Numbering.{decl_slots, block_slots, block_nodes, counts_from}
-use Rattle.ceu_tree.specs.Leaf.{Layer, code_at}
+use Rattle.ceu_tree.specs.Numbering.{decl_slots, counts_from}
+use Rattle.ceu_tree.specs.Leaf.{Layer}
 use Rattle.ceu_tree.specs.Step.{size_in_decl, size_in}
 use Rattle.ceu_tree.specs.Proper.{Scope, Seen, SlotKind, IsLoopVariable, IsPool, find, declared_seen, slot_kind, pool_slots, pools_seen, is_above, is_proper}
-use Rattle.ceu_legal.specs.Shape.{Part, ABlock, AStatement, AnEnd, part_scope, turn_scope, code_part, program_part, opens_part, FrameFits, around_statement, around_end, around_instance, around_part, around_turn, around_call, around_branch, Around, nothing_around, one_around}
+use Rattle.ceu_legal.specs.Shape.{Part, ABlock, AStatement, AnEnd, part_scope, turn_scope, program_part, opens_part, FrameFits, around_statement, around_end, around_instance, around_part, around_turn, around_call, around_branch, Around, nothing_around, one_around}
 use Rattle.ceu_legal.proofs.Static.{names_of}
 use Rattle.ceu_legal.proofs.UpFits.{Sound, frame_sound}
-use Rattle.ceu_values.specs.Ground.{Ground, Numbered, On}
+use Rattle.ceu_values.specs.Ground.{Ground, On}
 use Rattle.ceu_values.proofs.Counts.{Inner, counted_within}
 use Rattle.ceu_values.proofs.Grounds.{list_ground, inner_ground, part_ground, branch_ground, program_ground}
 use Rattle.ceu_values.proofs.FocusSpares.{decls_ground}
@@ -56,9 +54,9 @@ find_declared x c pools (d ∷ ds) seen h = go (d.slot == x) refl h (find_declar
       size = n;
       sized = ap (λ j. elim (size_in_decl x d.slot j) [ Some m ↦ Some m | None ↦ size_in x ds ]) e ∙ ap (λ b. elim (if b then Some n else None) [ Some m ↦ Some m | None ↦ size_in x ds ]) q;
       place = λ seat p o l. or_left _ (has_place ds seat) (
-        ap (λ j. elim j [ kind.Pool n c ↦ ((d.slot == seat.pool) && (c == seat.code) && nat_lt seat.place n) | _ ↦ false ]) e ∙
-        and_from ((d.slot == seat.pool) && (a == seat.code)) (nat_lt seat.place n) (and_from (d.slot == seat.pool) (a == seat.code) (eq-eqb d.slot seat.pool (eqb-true d.slot x q ∙ sym p)) (eq-eqb a seat.code (f ∙ sym o))) (lt-ltb seat.place n l)
-      );
+          ap (λ j. elim j [ kind.Pool n c ↦ ((d.slot == seat.pool) && (c == seat.code) && nat_lt seat.place n) | _ ↦ false ]) e ∙
+          and_from ((d.slot == seat.pool) && (a == seat.code)) (nat_lt seat.place n) (and_from (d.slot == seat.pool) (a == seat.code) (eq-eqb d.slot seat.pool (eqb-true d.slot x q ∙ sym p)) (eq-eqb a seat.code (f ∙ sym o))) (lt-ltb seat.place n l)
+          );
     }
 
     kind_is : (k : KKind) → d.kind ≡ k → Some (slot_kind pools k) ≡ Some (IsPool c) → (d.slot == x) ≡ true → DeclsHave x c (d ∷ ds)

@@ -1,5 +1,5 @@
 -- What the parts around a leaf do keeps each instance at its place in its pool.
-use Rattle.std.proofs.Common.{◌≡◌, refl, ℕ, ◌+◌, ℤ, pos, ◌+ℤ◌, int_lt, Bool, true, false, if◌then◌else◌, ◌==◌, List, Option, Some, None}
+use Rattle.std.proofs.Common.{ℕ, int_lt, Bool, true, false, if◌then◌else◌, ◌==◌, List}
 use Rattle.ceu_tree.specs.declared.kernel.KLoop.{KLoop}
 use Rattle.ceu_tree.specs.declared.kernel.KLoop.TheVariants as turns
 use Rattle.ceu_tree.specs.declared.kernel.ParKind.{ParKind}
@@ -13,7 +13,7 @@ use Rattle.ceu_tree.specs.Focus.{Frame, OfBlock, OfInstance, OfOpen, OfLoop, OfC
 use Rattle.ceu_tree.specs.World.{World}
 use Rattle.ceu_tree.specs.Leaf.{Layer, Exit, Escape, Break, Continue}
 use Rattle.ceu_tree.specs.Around.{Outcome, Goes, Rests, Raises, Fails, Past, Registers, AtBlockEnd, AtLoopHead, Ends, Leaves, Moved, body_left, open_left, turn_of, next_turn, loop_exit, loop_left, all_over, kind_of, rejoined, through, up, taken, answered}
-use Rattle.ceu_living.specs.Instances.{pools_stand, each_pools_stand, seats_stand}
+use Rattle.ceu_living.specs.Instances.{pools_stand, each_pools_stand}
 use Rattle.ceu_living.proofs.Trees.{frame_stands, focus_stands, joined, seats_less, filled, plugged}
 
 abbrev pub OutcomeStands : Outcome → Type 0

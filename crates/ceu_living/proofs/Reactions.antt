@@ -1,5 +1,5 @@
 -- Each step of a reaction of a proper kernel keeps the instances that live and their places.
-use Rattle.std.proofs.Common.{◌≡◌, refl, sym, ap, ◌∙◌, subst, ◌<◌, ℕ, zero, suc, ◌+◌, Bool, true, false, if◌then◌else◌, ◌==◌, inl, inr, List, [], Option, Some, None, arith}
+use Rattle.std.proofs.Common.{◌≡◌, refl, sym, ap, ◌∙◌, subst, ◌<◌, ℕ, zero, suc, ◌+◌, true, inr, Option, Some, None, arith}
 use Rattle.ceu_base.specs.declared.kinds.Pos.{Pos}
 use Rattle.ceu_base.specs.declared.kinds.Fault.{Fault}
 use Rattle.ceu_base.specs.declared.kinds.Mark.TheVariants as mark
@@ -16,7 +16,6 @@ use Rattle.ceu_tree.specs.Proper.{is_proper}
 use Rattle.ceu_tree.specs.Run.{Config, Turning, Between, Waiting, Ended, Faulted, config_of, unless_failed, level_closed, chosen_at, next, steps, booted}
 use Rattle.ceu_laws.proofs.FocusBalance.{Found, FoundIn, choose_found}
 use Rattle.ceu_legal.specs.Shape.{Part, Around, TurnFits, ConfigFits, program_part}
-use Rattle.ceu_legal.proofs.UpFits.{Sound}
 use Rattle.ceu_legal.proofs.StepFits.{around_sound}
 use Rattle.ceu_legal.proofs.RunFits.{root_sound, next_fits}
 use Rattle.ceu_living.specs.Instances.{pools_stand, InstancesStand}
@@ -24,11 +23,10 @@ use Rattle.ceu_living.proofs.Living.{often, lives, Quiet, kept_same}
 use Rattle.ceu_living.proofs.Trees.{live_focus, focus_stands, plug_lives, plugged, unplugged}
 use Rattle.ceu_living.proofs.Up.{left_whole}
 use Rattle.ceu_living.proofs.Places.{OutcomeStands}
-use Rattle.ceu_living.proofs.Spawns.{one_has}
 use Rattle.ceu_living.proofs.Paths.{pool_path}
 use Rattle.ceu_living.proofs.Rooms.{Room, acted_room}
-use Rattle.ceu_living.proofs.Steps.{Given, Moves, moves_kept, SpawnFine, stepped_moves, stepped_stands}
-use Rattle.ceu_living.proofs.Lists.{Counts, Even, numbers_stand, numbers_count}
+use Rattle.ceu_living.proofs.Steps.{Moves, moves_kept, SpawnFine, stepped_moves, stepped_stands}
+use Rattle.ceu_living.proofs.Lists.{Counts, numbers_stand, numbers_count}
 use Rattle.ceu_living.proofs.Evens.{fits_same, turn_same}
 
 -- ---- a configuration, by counting

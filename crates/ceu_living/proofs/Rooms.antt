@@ -1,8 +1,7 @@
 -- A leaf that spawns is in a trail, and sees the pool of its spawn.
-use Rattle.std.proofs.Common.{◌≡◌, refl, sym, ap, ℕ, ℤ, Bool, true, false, if◌then◌else◌, ◌==◌, List, [], ◌∷◌, Option, Some, None, Result, Ok, Err, eqb-true}
+use Rattle.std.proofs.Common.{◌≡◌, refl, ap, ℕ, ℤ, Bool, true, false, if◌then◌else◌, List, [], ◌∷◌, Option, Some, None, Result, Ok, Err, eqb-true}
 use Rattle.std.proofs.lemmas.Bool.{false≢true}
 use Rattle.ceu_base.specs.declared.kinds.Pos.{Pos}
-use Rattle.ceu_base.specs.declared.kinds.Ty.{Ty}
 use Rattle.ceu_base.specs.declared.kinds.Fault.{Fault}
 use Rattle.ceu_tree.specs.declared.kernel.Kernel.{Kernel}
 use Rattle.ceu_tree.specs.declared.kernel.KCode.{KCode}
@@ -17,7 +16,7 @@ use Rattle.ceu_tree.specs.World.{World, Cell, Names, look}
 use Rattle.ceu_tree.specs.Expressions.{value_of, value_if, values_of, names_living}
 use Rattle.ceu_tree.specs.Leaf.{Layer, Does, Passes, Spawns, Kills, Done, or_fails, code_at, chosen_part, in_branches, loop_reached, called, spawning, killing, started, acted}
 use Rattle.ceu_tree.specs.Proper.{SlotKind, IsVariable, IsLoopVariable, IsPool, IsAlias, Scope, is_pool_of, is_trail, find, is_proper}
-use Rattle.ceu_legal.specs.Shape.{Part, ABlock, AStatement, begins, heads, goes_again, starts, finishes, ends, ActFits, in_trail}
+use Rattle.ceu_legal.specs.Shape.{Part, AStatement, begins, heads, goes_again, starts, finishes, ends, ActFits, in_trail}
 use Rattle.ceu_legal.proofs.Static.{names_of}
 use Rattle.ceu_legal.proofs.UpFits.{Sound}
 use Rattle.ceu_living.proofs.Homes.{layer_says, at_says}

@@ -1,6 +1,5 @@
 -- What the parts around a leaf do keeps the balance of the numbers that live and those of the instances that are left.
 use Rattle.std.proofs.Common.{◌≡◌, refl, sym, ℕ, ◌+◌, ℤ, pos, Bool, true, false, if◌then◌else◌, ◌==◌, int_lt, List, ◌∷◌, Option, Some, None, arith}
-use Rattle.ceu_base.specs.declared.kinds.Pos.{Pos}
 use Rattle.ceu_base.specs.declared.kinds.Mark.TheVariants as mark
 use Rattle.ceu_tree.specs.declared.kernel.KLoop.{KLoop}
 use Rattle.ceu_tree.specs.declared.kernel.KLoop.TheVariants as turns
