@@ -1,0 +1,15 @@
+pub mod Living
+pub mod Trees
+pub mod Up
+pub mod Leaf
+pub mod Places
+pub mod Spawns
+pub mod Homes
+pub mod Paths
+pub mod Rooms
+pub mod Steps
+pub mod Lists
+pub mod Evens
+pub mod Reactions
+pub mod Commands
+pub mod Runs
