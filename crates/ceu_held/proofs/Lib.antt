@@ -11,4 +11,6 @@ pub mod Steps
 pub mod Given
 pub mod Reactions
 pub mod Commands
+pub mod Rows
+pub mod Fitting
 pub mod Runs

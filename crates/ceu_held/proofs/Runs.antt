@@ -25,12 +25,14 @@ use Rattle.ceu_legal.specs.Shape.{ConfigFits}
 use Rattle.ceu_living.specs.Instances.{InstancesStand}
 use Rattle.ceu_living.proofs.Reactions.{instances_counted}
 use Rattle.ceu_held.specs.Held.{is_of_kind, lies_at, lies_declared, lies_counted, lies_turning, lies_given, lies_in, lies_in_branches, lies_in_instances, all_lie, ValuesLie}
-use Rattle.ceu_held.specs.Laws.{RunSlotsLegal}
+use Rattle.ceu_legal.proofs.RunFits.{run_fits}
+use Rattle.ceu_held.specs.Laws.{SlotKinds, RunSlotKinds, RunSlotsLegal}
 use Rattle.ceu_held.proofs.Slots.{room, focus_room, plug_room, lies_room}
 use Rattle.ceu_held.proofs.Values as values
 use Rattle.ceu_held.proofs.Values.{Lie, lie_more, lie_all}
 use Rattle.ceu_held.proofs.Reactions.{TreeLies, FocusLies, ConfigLies, next_lies, steps_lie}
 use Rattle.ceu_held.proofs.Commands.{done_lies, run_lies}
+use Rattle.ceu_held.proofs.Fitting.{each_lies, tree_fits, program_known}
 
 -- ---- what is counted, and what is said
 
@@ -72,6 +74,14 @@ module _ (K : Kernel) where
 
     pub run_held : (n : ℕ) (xs : List Command) → ValuesLie K (run K n xs)
     run_held n xs = config_lies (run K n xs) (run_lies K proper n xs)
+
+-- ---- the kinds of open slots
+
+pub kinds_are : SlotKinds
+kinds_are K r w p t v = tree_fits K p w (each_lies K w.given t (program_known K) Program w.values (tree_counted K r w v)) t (program_known K) Program
+
+pub run_kinds : RunSlotKinds
+run_kinds K n xs r w p e = kinds_are K r w p (subst (ConfigFits K) e (run_fits K p n xs)) (subst (ValuesLie K) e (run_held K p n xs))
 
 -- ---- in the words of legality
 

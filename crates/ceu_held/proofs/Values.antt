@@ -41,7 +41,7 @@ lie_filter m k q f (h ∷ hs) l = go (q h) refl (lie_filter m k q f hs l.1)
 
 -- ---- a set
 
-held_at : (body : Body) (slot : ℕ) (c : Cell) (h : Held) → is_at body slot h ≡ true → held body slot c ≡ record h { cell = c }
+pub held_at : (body : Body) (slot : ℕ) (c : Cell) (h : Held) → is_at body slot h ≡ true → held body slot c ≡ record h { cell = c }
 held_at body slot c h e =
     let a = and_parts (slot == h.slot) (same_body body h.body) e in
     ap (λ n. held body n c) (eqb-true slot h.slot a.0) ∙ ap (λ b. held b h.slot c) (same_is body h.body a.1)

@@ -11,6 +11,7 @@ use Rattle.ceu_tree.specs.Run.{Config, Waiting, booted, next, steps, done, run}
 use Rattle.ceu_legal.specs.Shape.{ConfigFits}
 use Rattle.ceu_living.specs.Instances.{InstancesStand}
 use Rattle.ceu_held.specs.Held.{ValuesLie}
+use Rattle.ceu_held.specs.Kinds.{kinds_fit}
 
 abbrev pub BootHeld : Type 0
 BootHeld = (K : Kernel) → ValuesLie K (booted K)
@@ -26,6 +27,14 @@ CommandHeld = (K : Kernel) (n : ℕ) (x : Command) (c : Config) → Proper K →
 
 abbrev pub RunHeld : Type 0
 RunHeld = (K : Kernel) (n : ℕ) (xs : List Command) → Proper K → ValuesLie K (run K n xs)
+
+-- Where a configuration that fits a proper kernel waits, and its values lie in open slots, each open slot holds nothing or a cell of its kind: what lies in
+-- two slots of one number is of the kind of both.
+abbrev pub SlotKinds : Type 0
+SlotKinds = (K : Kernel) (r : Residual) (w : World) → Proper K → ConfigFits K (Waiting r w) → ValuesLie K (Waiting r w) → kinds_fit K.codes w r Program ≡ true
+
+abbrev pub RunSlotKinds : Type 0
+RunSlotKinds = (K : Kernel) (n : ℕ) (xs : List Command) (r : Residual) (w : World) → Proper K → run K n xs ≡ Waiting r w → kinds_fit K.codes w r Program ≡ true
 
 -- ---- in the words of legality
 
