@@ -45,7 +45,7 @@ either_stands : (b : Bool) (x y : Residual) → pools_stand x → pools_stand y 
 either_stands true x y h k = h
 either_stands false x y h k = k
 
-by_input_calm : (event : ℕ) (v : ℤ) → Calm (by_input event v)
+pub by_input_calm : (event : ℕ) (v : ℤ) → Calm (by_input event v)
 unfolding lives pools_stand
 by_input_calm event v = record { counts = count; stands = stand }
   where
@@ -57,7 +57,7 @@ by_input_calm event v = record { counts = count; stands = stand }
     stand (WaitInput k s) h = either_stands (k == event) _ _ tt tt
     stand r h = h
 
-by_time_calm : (d : ℕ) → Calm (by_time d)
+pub by_time_calm : (d : ℕ) → Calm (by_time d)
 unfolding lives pools_stand
 by_time_calm d = record { counts = count; stands = stand }
   where
@@ -69,7 +69,7 @@ by_time_calm d = record { counts = count; stands = stand }
     stand (WaitTime left s) h = either_stands (left == 0) _ _ tt tt
     stand r h = h
 
-later_calm : (d : ℕ) → Calm (later d)
+pub later_calm : (d : ℕ) → Calm (later d)
 unfolding lives pools_stand
 later_calm d = record { counts = count; stands = stand }
   where
@@ -81,7 +81,7 @@ later_calm d = record { counts = count; stands = stand }
     stand (WaitTime left s) h = tt
     stand r h = h
 
-round_calm : Calm new_round
+pub round_calm : Calm new_round
 unfolding lives pools_stand
 round_calm = record { counts = count; stands = stand }
   where
@@ -93,10 +93,10 @@ round_calm = record { counts = count; stands = stand }
     stand (InAsync s b r) h = h
     stand r h = h
 
-abbrev TreeCounts : Residual → World → Type 0
+abbrev pub TreeCounts : Residual → World → Type 0
 TreeCounts r w = Counts (λ p. lives p r) w × pools_stand r
 
-leaves_counts : (g : Residual → Residual) (calm : Calm g) (r : Residual) (w : World) → TreeCounts r w → TreeCounts (each_leaf g r) w
+pub leaves_counts : (g : Residual → Residual) (calm : Calm g) (r : Residual) (w : World) → TreeCounts r w → TreeCounts (each_leaf g r) w
 leaves_counts g calm r w h = (counts_same (λ p. lives p r) (λ p. lives p (each_leaf g r)) w w (record { living = refl; given = refl }) (λ p. sym (each_lives g calm p r)) h.0, leaves_stand g calm r h.1)
 
 module _ (K : Kernel) (proper : is_proper K ≡ true) where
@@ -147,12 +147,12 @@ module _ (K : Kernel) (proper : is_proper K ≡ true) where
 
   -- ---- asyncs, in which nothing is spawned
 
-  record AsyncPart (d : Part) : Type 0 where
-    closed : Closed K proper d
-    sound : Sound K proper d
-    apart : in_trail d → ⊥
+  pub record AsyncPart (d : Part) : Type 0 where
+    pub closed : Closed K proper d
+    pub sound : Sound K proper d
+    pub apart : in_trail d → ⊥
 
-  apart_fine : {t : ℕ} {f : Focus Act} {d e : Part} (x : Does) → AsyncPart d → Around K t Act f d e → Room K proper e x → SpawnFine f x
+  pub apart_fine : {t : ℕ} {f : Focus Act} {d e : Part} (x : Does) → AsyncPart d → Around K t Act f d e → Room K proper e x → SpawnFine f x
   apart_fine (does.Spawns s c code pool alias vs) p a r = absurd (p.apart (around_trail K proper a p.sound r.0))
   apart_fine (does.Opens x) p a r = tt
   apart_fine (does.Waits x) p a r = tt
@@ -166,7 +166,7 @@ module _ (K : Kernel) (proper : is_proper K ≡ true) where
   apart_fine (does.Fails e) p a r = tt
 
   -- with so many instances outside
-  abbrev ServedCounts : (ℕ → ℕ) → Served → Type 0
+  abbrev pub ServedCounts : (ℕ → ℕ) → Served → Type 0
   ServedCounts c (Turned r w) = Counts (λ p. lives p r + c p) w × pools_stand r
   ServedCounts c (Done w) = Counts (λ p. 0 + c p) w
   ServedCounts c x = Unit {0}
@@ -208,14 +208,14 @@ module _ (K : Kernel) (proper : is_proper K ≡ true) where
       go AtLoopHead y b s ih = b
       go (Leaves node x) y b s ih = b
 
-  first_counts : (c : ℕ → ℕ) (k : ℕ) (root : Body) (o : Option (Focus Act)) (r : Residual) (w : World) (d : Part) → AsyncPart d → ChoiceFits K 1 Act (runs_at 0) d o → FoundIn Act (runs_at 0) r o
+  pub first_counts : (c : ℕ → ℕ) (k : ℕ) (root : Body) (o : Option (Focus Act)) (r : Residual) (w : World) (d : Part) → AsyncPart d → ChoiceFits K 1 Act (runs_at 0) d o → FoundIn Act (runs_at 0) r o
       → Counts (λ p. lives p r + c p) w → pools_stand r → ServedCounts c (serve_first K k root o r w)
   first_counts c k root None r w d a t x h st = (h, st)
   first_counts c k root (Some f) r w d a t x h st =
       serve_counts c k root f w d a (turn_of_chosen K proper 0 d f t)
       (counts_same (λ p. lives p r + c p) (λ p. live_focus p f + c p) w w (record { living = refl; given = refl }) (λ p. (let e = chosen_lives p 0 r f x in omega (arith, e))) h) (found_stands (runs_at 0) r f x st).0
 
-  unserved_lives : (p : ℕ) (r : Residual) (x : Unserved) → unserved r ≡ Some x → lives p r ≡ lives p x.inner
+  pub unserved_lives : (p : ℕ) (r : Residual) (x : Unserved) → unserved r ≡ Some x → lives p r ≡ lives p x.inner
   unfolding lives
   unserved_lives p (InAsync s false r) x e = inner e
     where
@@ -223,12 +223,12 @@ module _ (K : Kernel) (proper : is_proper K ≡ true) where
       inner h = ap (λ o. elim o [ None ↦ 0 | Some y ↦ lives p y.inner ]) h
   unserved_lives p r x e = absurd (cc)
 
-  unserved_stands : (r : Residual) (x : Unserved) → unserved r ≡ Some x → pools_stand r → pools_stand x.inner
+  pub unserved_stands : (r : Residual) (x : Unserved) → unserved r ≡ Some x → pools_stand r → pools_stand x.inner
   unfolding pools_stand
   unserved_stands (InAsync s false r) x e h = subst pools_stand (ap (λ o. elim o [ None ↦ r | Some y ↦ y.inner ]) e) h
   unserved_stands r x e h = absurd (cc)
 
-  after_counts : (k : ℕ) (g : Focus Unserved) (x : Served) (r : Residual) (w : World) (sc : Scope) (b : KBlock) → Around K 0 Unserved g (program_part K) (AStatement sc (leaf g).stmt) → out-KStmt (leaf g).stmt.stmt ≡ KStmt-F.Async b
+  pub after_counts : (k : ℕ) (g : Focus Unserved) (x : Served) (r : Residual) (w : World) (sc : Scope) (b : KBlock) → Around K 0 Unserved g (program_part K) (AStatement sc (leaf g).stmt) → out-KStmt (leaf g).stmt.stmt ≡ KStmt-F.Async b
       → focus_stands g → TreeCounts r w → ServedCounts (λ p. live_focus p g) x → ConfigCounts (after_serving K k g x r w)
   unfolding lives pools_stand
   after_counts k g Unfinished r w sc b a e st h s = h
@@ -258,7 +258,7 @@ module _ (K : Kernel) (proper : is_proper K ≡ true) where
       (λ q. (let u = plug_lives q g x.was in let v = unserved_lives q x.was (leaf g) x.picked in let z = ap (lives q) x.plugs in omega (arith, u, v, z))) h.0)
       (unserved_stands x.was (leaf g) x.picked f.1))
 
-  idle_turn_counts : (k : ℕ) (c : Config) → ConfigFits K c → ConfigCounts c → ConfigCounts (idle_turn K k c)
+  pub idle_turn_counts : (k : ℕ) (c : Config) → ConfigFits K c → ConfigCounts c → ConfigCounts (idle_turn K k c)
   idle_turn_counts k (Waiting r w) t h = go (choose Unserved unserved r) (choice_fits K 0 Unserved unserved t) (choose_found Unserved unserved r)
     where
       again : Residual

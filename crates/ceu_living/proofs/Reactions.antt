@@ -103,7 +103,7 @@ chosen_counts n r w (Some f) x h k =
     (counts_same (λ p. lives p r) (λ p. live_focus p f) w (marked (mark.Resume n) w) (record { living = refl; given = refl }) (λ p. chosen_lives p n r f x) h, (found_stands (runs_at n) r f x k).0)
 
 module _ (K : Kernel) (proper : is_proper K ≡ true) where
-  room_fine : {t : ℕ} {f : Focus Act} {e : Part} (x : Does) → Around K t Act f (program_part K) e → focus_stands f → Room K proper e x → SpawnFine f x
+  pub room_fine : {t : ℕ} {f : Focus Act} {e : Part} (x : Does) → Around K t Act f (program_part K) e → focus_stands f → Room K proper e x → SpawnFine f x
   room_fine (does.Spawns s c code pool alias vs) a st r = pool_path K pool proper code a (root_sound K proper) st r.1
   room_fine (does.Opens x) a st r = tt
   room_fine (does.Waits x) a st r = tt

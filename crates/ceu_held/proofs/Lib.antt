@@ -1,0 +1,16 @@
+pub mod Slots
+pub mod Values
+pub mod Covers
+pub mod Writes
+pub mod Aborts
+pub mod Leaving
+pub mod Up
+pub mod Through
+pub mod Leaf
+pub mod Steps
+pub mod Given
+pub mod Reactions
+pub mod Commands
+pub mod Rows
+pub mod Fitting
+pub mod Runs

@@ -1,0 +1,43 @@
+-- The laws on the values that the configurations of a proper kernel hold.
+use Rattle.std.specs.Prelude.{◌≡◌, ℕ, true, List}
+use Rattle.std.specs.List.{list_all}
+use Rattle.ceu_tree.specs.declared.command.Command.{Command}
+use Rattle.ceu_tree.specs.declared.kernel.Kernel.{Kernel}
+use Rattle.ceu_tree.specs.Residual.{Program, Residual}
+use Rattle.ceu_tree.specs.World.{World}
+use Rattle.ceu_tree.specs.Proper.{Proper}
+use Rattle.ceu_tree.specs.Legal.{open_slots, is_open_slot}
+use Rattle.ceu_tree.specs.Run.{Config, Waiting, booted, next, steps, done, run}
+use Rattle.ceu_legal.specs.Shape.{ConfigFits}
+use Rattle.ceu_living.specs.Instances.{InstancesStand}
+use Rattle.ceu_held.specs.Held.{ValuesLie}
+use Rattle.ceu_held.specs.Kinds.{kinds_fit}
+
+abbrev pub BootHeld : Type 0
+BootHeld = (K : Kernel) → ValuesLie K (booted K)
+
+abbrev pub StepHeld : Type 0
+StepHeld = (K : Kernel) (c : Config) → Proper K → ConfigFits K c → InstancesStand c → ValuesLie K c → ValuesLie K (next K c)
+
+abbrev pub ReactionHeld : Type 0
+ReactionHeld = (K : Kernel) (n : ℕ) (c : Config) → Proper K → ConfigFits K c → InstancesStand c → ValuesLie K c → ValuesLie K (steps K n c)
+
+abbrev pub CommandHeld : Type 0
+CommandHeld = (K : Kernel) (n : ℕ) (x : Command) (c : Config) → Proper K → ConfigFits K c → InstancesStand c → ValuesLie K c → ValuesLie K (done K n x c)
+
+abbrev pub RunHeld : Type 0
+RunHeld = (K : Kernel) (n : ℕ) (xs : List Command) → Proper K → ValuesLie K (run K n xs)
+
+-- Where a configuration that fits a proper kernel waits, and its values lie in open slots, each open slot holds nothing or a cell of its kind: what lies in
+-- two slots of one number is of the kind of both.
+abbrev pub SlotKinds : Type 0
+SlotKinds = (K : Kernel) (r : Residual) (w : World) → Proper K → ConfigFits K (Waiting r w) → ValuesLie K (Waiting r w) → kinds_fit K.codes w r Program ≡ true
+
+abbrev pub RunSlotKinds : Type 0
+RunSlotKinds = (K : Kernel) (n : ℕ) (xs : List Command) (r : Residual) (w : World) → Proper K → run K n xs ≡ Waiting r w → kinds_fit K.codes w r Program ≡ true
+
+-- ---- in the words of legality
+
+-- where a run of a proper kernel waits, each value is of an open slot
+abbrev pub RunSlotsLegal : Type 0
+RunSlotsLegal = (K : Kernel) (n : ℕ) (xs : List Command) (r : Residual) (w : World) → Proper K → run K n xs ≡ Waiting r w → list_all (is_open_slot (open_slots K.codes r Program)) w.values ≡ true

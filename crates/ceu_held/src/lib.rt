@@ -1,0 +1,46 @@
+//! Laws of the reference semantics on the values that open bodies hold, each the contract of a function with an empty body.
+//!
+//! In each configuration of a run of a proper kernel every value lies in a slot that is open, and is of that slot's kind.
+#![tactic(auto)]
+
+ghost use Rattle.ceu_held.specs.Laws.{BootHeld, CommandHeld, ReactionHeld, RunHeld, RunSlotKinds, RunSlotsLegal, SlotKinds, StepHeld};
+
+/// At the start no value is held.
+pub fn boot_held()
+    ensures { BootHeld }
+{}
+
+/// A step of a configuration that fits a proper kernel keeps each value in an open slot of its kind.
+pub fn step_held()
+    ensures { StepHeld }
+{}
+
+/// So does any number of steps of a reaction,
+pub fn reaction_held()
+    ensures { ReactionHeld }
+{}
+
+/// and an input, an advance of the clock and idle turns.
+pub fn command_held()
+    ensures { CommandHeld }
+{}
+
+/// So it is in each configuration of every run of a proper kernel.
+pub fn run_held()
+    ensures { RunHeld }
+{}
+
+/// Where a configuration waits whose values lie so, each open slot holds nothing or a cell of its kind: a number of its own tells each slot of a kernel.
+pub fn slot_kinds()
+    ensures { SlotKinds }
+{}
+
+/// So it is wherever a run of a proper kernel waits.
+pub fn run_slot_kinds()
+    ensures { RunSlotKinds }
+{}
+
+/// Where such a run waits, each value is of an open slot, as a legal configuration has it.
+pub fn run_slots_legal()
+    ensures { RunSlotsLegal }
+{}
