@@ -1,3 +1,5 @@
 pub mod Cells
 pub mod Grips
 pub mod Trees
+pub mod Marks
+pub mod Clear
