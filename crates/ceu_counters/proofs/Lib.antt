@@ -5,3 +5,5 @@ pub mod Marks
 pub mod Clear
 pub mod Bodies
 pub mod Bounds
+pub mod Aborts
+pub mod Up
