@@ -7,3 +7,5 @@ pub mod Bodies
 pub mod Bounds
 pub mod Aborts
 pub mod Up
+pub mod Leaf
+pub mod Steps
