@@ -29,7 +29,7 @@ use Rattle.ceu_tree.specs.Proper.{is_proper}
 use Rattle.ceu_legal.specs.Shape.{Part, AStatement, begins, heads, goes_again, starts, finishes, ends, ActFits}
 use Rattle.ceu_legal.proofs.UpFits.{Sound}
 use Rattle.ceu_living.proofs.Living.{often}
-use Rattle.ceu_counters.specs.Counters.{counts_in, from_first, to_last, at_head, loop_stands, loops_stand, each_loops_stand, all_loops_stand, is_first, focus_loops_stand}
+use Rattle.ceu_counters.specs.Counters.{counts_in, from_first, to_last, head_stands, loop_stands, loops_stand, each_loops_stand, all_loops_stand, is_first, focus_loops_stand}
 use Rattle.ceu_counters.proofs.Cells.{cell_in, apart_from, set_apart, assign_apart, assign_if_apart, set_parameters_apart}
 use Rattle.ceu_counters.proofs.Marks.{kernel_marks}
 use Rattle.ceu_counters.proofs.Clear.{Clear, target_clear, starts_apart, starts_clear, code_params}
@@ -48,7 +48,7 @@ literal_value e c body w h = node_literal e.node e.ty e.pos c body w h
 same_value : (e : KExp) (c v : ℤ) (body : Body) (w : World) → literal e.node ≡ Some c → value_of e body w ≡ Ok v → c ≡ v
 same_value e c v body w h k = ap (λ o. elim o [ Ok y ↦ y | Err f ↦ c ]) (sym (literal_value e c body w h) ∙ k)
 
-le_self : (v : ℤ) → int_le v v ≡ true
+pub le_self : (v : ℤ) → int_le v v ≡ true
 le_self v = go (int_le v v) refl
   where
     go : (t : Bool) → int_le v v ≡ t → int_le v v ≡ true
@@ -101,7 +101,7 @@ module _ (K : Kernel) (proper : is_proper K ≡ true) (b : Body) (x : ℕ) (clea
   unfolding focus_loops_stand
   open_done here w s c = acts here w w (opened s c) (tt, tt) refl
 
-  looping_done : (here : Body) (w : World) (s : KNode) (l : KLoop) (c : KBlock) (j : Counter) → out-KStmt s.stmt ≡ KStmt-F.Loop l c → ((same_body here b && counts_in x l) ≡ true → at_head l j) → ActDone here w (record { does = looping s j; world = w })
+  looping_done : (here : Body) (w : World) (s : KNode) (l : KLoop) (c : KBlock) (j : Counter) → out-KStmt s.stmt ≡ KStmt-F.Loop l c → ((same_body here b && counts_in x l) ≡ true → head_stands l j) → ActDone here w (record { does = looping s j; world = w })
   unfolding focus_loops_stand
   looping_done here w s l c j e h = acts here w w (looping s j) (subst (λ y. loop_stands b x (cell_in b x w) true here y j) (sym e) h, tt) refl
 

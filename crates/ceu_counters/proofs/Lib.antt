@@ -9,3 +9,8 @@ pub mod Aborts
 pub mod Up
 pub mod Leaf
 pub mod Steps
+pub mod Loopless
+pub mod Reactions
+pub mod Calms
+pub mod Commands
+pub mod Runs

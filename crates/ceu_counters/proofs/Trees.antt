@@ -14,7 +14,7 @@ use Rattle.ceu_tree.specs.Focus.{Frame, OfBlock, OfInstance, OfOpen, OfLoop, OfC
 use Rattle.ceu_tree.specs.World.{Cell}
 use Rattle.ceu_tree.specs.Leaf.{Layer}
 use Rattle.ceu_tree.specs.Wake.{each_leaf, each_in_branches, each_in_instances, each_in_body, woken}
-use Rattle.ceu_counters.specs.Counters.{counts_in, from_first, to_last, InRange, in_turn, at_head, loop_stands, loops_stand, each_loops_stand, all_loops_stand, frame_loops_stand, at_loop, focus_loops_stand}
+use Rattle.ceu_counters.specs.Counters.{counts_in, from_first, to_last, InRange, turn_stands, head_stands, loop_stands, loops_stand, each_loops_stand, all_loops_stand, frame_loops_stand, at_loop, focus_loops_stand}
 
 -- ---- after a turn the loop's head is reached again
 
@@ -26,7 +26,7 @@ next_from (Some a) open_a v h = go (int_le (a +ℤ of_test open_a) (v +ℤ pos 1
     go true e = e
     go false e = absurd (omega (arith, ints, e, h))
 
-pub turn_over : (cell : Option Cell) (k : KLoop) (c : Counter) → in_turn cell k c → at_head k c
+pub turn_over : (cell : Option Cell) (k : KLoop) (c : Counter) → turn_stands cell k c → head_stands k c
 turn_over cell (turns.Times slot n) (Turns k) h = h.1
 turn_over cell (turns.Range i next end open_a y z open_b) (Upward v last) h =
     (subst (from_first (literal y.node) open_a) (sym h.next_is) (next_from (literal y.node) open_a h.value h.from), h.to)

@@ -27,7 +27,7 @@ use Rattle.ceu_legal.proofs.UpFits.{Sound, frame_sound, up_fits}
 use Rattle.ceu_legal.proofs.StepFits.{Closed}
 use Rattle.ceu_values.proofs.Stores.{same_is}
 use Rattle.ceu_values.proofs.UpValues.{is_head_outcome}
-use Rattle.ceu_counters.specs.Counters.{counts_in, InRange, in_turn, at_head, loop_stands, loops_stand, all_loops_stand, each_loops_stand, frame_loops_stand, is_first, at_loop, focus_loops_stand}
+use Rattle.ceu_counters.specs.Counters.{counts_in, InRange, turn_stands, head_stands, loop_stands, loops_stand, all_loops_stand, each_loops_stand, frame_loops_stand, is_first, at_loop, focus_loops_stand}
 use Rattle.ceu_counters.proofs.Cells.{cell_in, is_own, finalizers_apart, set_apart, set_own, assign_if_apart, forget_body_apart, forget_loop_apart}
 use Rattle.ceu_counters.proofs.Grips.{point, own, grip, grip_each, grip_all, frame_grip, focus_grip, body_point, loop_settled, settled, each_settled, all_settled, frame_settled}
 use Rattle.ceu_counters.proofs.Trees.{loop_later, frame_later, joined, joined_all, filled}

@@ -42,24 +42,24 @@ pub record InRange (cell : Option Cell) (a : Option ℤ) (open_a : Bool) (b : Op
   pub to : to_last b open_b last
 
 -- a count of n turns has begun from 1 to n of them
-abbrev pub in_turn : Option Cell → KLoop → Counter → Type 0
-in_turn cell (turns.Times slot n) (Turns k) = (1 ≤ k) × (k ≤ n)
-in_turn cell (turns.Range i next end open_a a b open_b) (Upward v last) = InRange cell (literal a.node) open_a (literal b.node) open_b v last
-in_turn cell k c = Unit {0}
+abbrev pub turn_stands : Option Cell → KLoop → Counter → Type 0
+turn_stands cell (turns.Times slot n) (Turns k) = (1 ≤ k) × (k ≤ n)
+turn_stands cell (turns.Range i next end open_a a b open_b) (Upward v last) = InRange cell (literal a.node) open_a (literal b.node) open_b v last
+turn_stands cell k c = Unit {0}
 
 -- at the loop's head the next turn has not begun
-abbrev pub at_head : KLoop → Counter → Type 0
-at_head (turns.Times slot n) (Turns k) = k ≤ n
-at_head (turns.Range i next end open_a a b open_b) (Upward v last) = from_first (literal a.node) open_a v × to_last (literal b.node) open_b last
-at_head k c = Unit {0}
+abbrev pub head_stands : KLoop → Counter → Type 0
+head_stands (turns.Times slot n) (Turns k) = k ≤ n
+head_stands (turns.Range i next end open_a a b open_b) (Upward v last) = from_first (literal a.node) open_a v × to_last (literal b.node) open_b last
+head_stands k c = Unit {0}
 
 -- ---- open loops of the body `body` that count in `slot`, which holds `cell`
 
 module _ (body : Body) (slot : ℕ) (cell : Option Cell) where
   -- a loop of the open body `here`; `first` says that its trail is at its head for the first time
   abbrev pub loop_stands : (first : Bool) → (here : Body) → Layer → Counter → Type 0
-  loop_stands false here (KStmt-F.Loop k b) c = (same_body here body && counts_in slot k) ≡ true → in_turn cell k c
-  loop_stands true here (KStmt-F.Loop k b) c = (same_body here body && counts_in slot k) ≡ true → at_head k c
+  loop_stands false here (KStmt-F.Loop k b) c = (same_body here body && counts_in slot k) ≡ true → turn_stands cell k c
+  loop_stands true here (KStmt-F.Loop k b) c = (same_body here body && counts_in slot k) ≡ true → head_stands k c
   loop_stands first here layer c = Unit {0}
 
   unfoldable mutual
