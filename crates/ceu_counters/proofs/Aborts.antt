@@ -1,14 +1,13 @@
 -- What a slot holds stays where a part is aborted that has no hold of the slot.
-use Rattle.std.proofs.Common.{◌≡◌, refl, sym, ap, ◌∙◌, subst, ℕ, ◌+◌, Bool, true, false, if◌then◌else◌, List, [], ◌∷◌, ◌++◌, append-nil, Some, arith}
-use Rattle.std.proofs.lemmas.Bool.{false≢true}
+use Rattle.std.proofs.Common.{◌≡◌, refl, sym, ap, ◌∙◌, ℕ, Bool, true, false, if◌then◌else◌, List, [], ◌∷◌, ◌++◌, append-nil, arith}
 use Rattle.ceu_tree.specs.declared.kernel.Kernel.{Kernel}
 use Rattle.ceu_tree.specs.declared.kernel.ParKind.{ParKind}
 use Rattle.ceu_tree.specs.declared.kernel.KNode.{KNode}
 use Rattle.ceu_tree.specs.declared.kernel.KBlock.{KBlock, out-KBlock}
 use Rattle.ceu_tree.specs.declared.kernel.KStmt.{out-KStmt}
 use Rattle.ceu_tree.specs.declared.kernel.KStmt.TheOpen.{KStmt-F}
-use Rattle.ceu_tree.specs.Residual.{Body, Awaited, Spawned, same_body, Act, Residual, Over, Branches, no_branch, branch, Instances, no_instance, instance}
-use Rattle.ceu_tree.specs.Focus.{Frame, OfBlock, OfInstance, OfPar, Focus, Here, In, join, join_instances, fill, plug, body_in}
+use Rattle.ceu_tree.specs.Residual.{Body, Awaited, Spawned, same_body, Act, Residual, Over, Branches, branch, Instances, no_instance, instance}
+use Rattle.ceu_tree.specs.Focus.{Frame, OfInstance, OfPar, Focus, Here, In, join_instances, fill, plug, body_in}
 use Rattle.ceu_tree.specs.World.{World}
 use Rattle.ceu_tree.specs.Abort.{finalized, aborted, branches_aborted, instances_aborted, closed}
 use Rattle.ceu_tree.specs.Leaf.{Layer}

@@ -1,23 +1,21 @@
 -- In a proper kernel a part has hold of a slot at most as its ground and its instances let it: of the whole, an open body is open once, and one loop of it
 -- counts in the slot.
-use Rattle.std.proofs.Common.{◌≡◌, refl, sym, ap, ◌∙◌, subst, ◌≤◌, ℕ, ◌+◌, ◌*◌, true, List, [], ◌∷◌, ◌++◌, length, Some, arith}
+use Rattle.std.proofs.Common.{◌≡◌, ◌≤◌, ℕ, ◌+◌, ◌*◌, true, List, ◌∷◌, ◌++◌, arith}
 use Rattle.ceu_tree.specs.declared.kernel.Kernel.{Kernel}
 use Rattle.ceu_tree.specs.declared.kernel.ParKind.{ParKind}
-use Rattle.ceu_tree.specs.declared.kernel.KNode.{KNode}
-use Rattle.ceu_tree.specs.declared.kernel.KBlock.{KBlock, out-KBlock}
-use Rattle.ceu_tree.specs.declared.kernel.KStmt.{out-KStmt}
+use Rattle.ceu_tree.specs.declared.kernel.KBlock.{KBlock}
 use Rattle.ceu_tree.specs.declared.kernel.KStmt.TheOpen.{KStmt-F}
 use Rattle.ceu_tree.specs.Residual.{Body, Awaited, Spawned, Residual, Branches, Instances}
-use Rattle.ceu_tree.specs.Focus.{Frame, OfBlock, OfInstance, OfPar, Focus, Here, In, body_in, body_of}
+use Rattle.ceu_tree.specs.Focus.{Frame, Focus, Here, In, body_in, body_of}
 use Rattle.ceu_tree.specs.Numbering.{block_slots, block_nodes}
 use Rattle.ceu_tree.specs.Proper.{Scope, is_proper}
 use Rattle.ceu_legal.specs.Shape.{Part, Fits, to_begin, to_turn, in_list, to_finish, at_input, at_time, at_event, at_forever, at_async, in_part, in_turn, in_call, in_par, EachFits, no_more, an_ended, a_branch, AllFit, none_lives, one_lives, FrameFits, around_statement, around_end, around_instance, around_part, around_turn, around_call, around_branch, Around, nothing_around, one_around}
 use Rattle.ceu_values.specs.Ground.{Ground, Numbered, On}
-use Rattle.ceu_values.proofs.Counts.{halves, Inner, inner_then, blocks_slots_all, blocks_nodes_all}
+use Rattle.ceu_values.proofs.Counts.{halves, Inner, blocks_slots_all, blocks_nodes_all}
 use Rattle.ceu_values.proofs.Grounds.{list_ground, inner_ground, own_node, part_ground, branch_ground, code_ground}
-use Rattle.ceu_living.proofs.Living.{once, lives, live_branches, live_instances}
+use Rattle.ceu_living.proofs.Living.{lives, live_branches, live_instances}
 use Rattle.ceu_living.proofs.Trees.{live_frame, live_focus}
-use Rattle.ceu_counters.proofs.Grips.{point, own, grip, grip_each, grip_all, frame_grip, focus_grip}
+use Rattle.ceu_counters.proofs.Grips.{grip, grip_each, grip_all, frame_grip, focus_grip}
 use Rattle.ceu_counters.proofs.Bodies.{root, cap, cap_inner, cap_halves, cap_call, cap_instance, cap_turn}
 
 module _ (K : Kernel) (proper : is_proper K ≡ true) (b : Body) (x : ℕ) where

@@ -1,5 +1,5 @@
 -- Leaves that wake, and time that passes, leave the instances as they were, and the loops.
-use Rattle.std.proofs.Common.{◌≡◌, refl, sym, ap, subst, ℕ, ◌+◌, min, ℤ, pos, Bool, true, false, if◌then◌else◌, ◌==◌, Option, Some, None, arith}
+use Rattle.std.proofs.Common.{◌≡◌, refl, sym, ap, subst, ℕ, min, ℤ, pos, Bool, true, false, if◌then◌else◌, ◌==◌, Option, Some, None}
 use Rattle.ceu_tree.specs.Residual.{Body, Finish, Residual, Run, WaitInput, WaitTime, InAsync}
 use Rattle.ceu_tree.specs.World.{World, Cell}
 use Rattle.ceu_tree.specs.Wake.{each_leaf, by_input, later, by_time, Unserved, unserved, new_round}

@@ -1,5 +1,5 @@
 -- Where no declaration of a proper kernel has a slot, no statement sets it but the head of a loop, and no finalizer.
-use Rattle.std.proofs.Common.{◌≡◌, refl, sym, ap, ◌∙◌, subst, ℕ, ◌+◌, Bool, true, false, not, if◌then◌else◌, ◌==◌, ◌&&◌, List, [], ◌∷◌, ◌++◌, Option, Some, None, arith, eq-eqb, eqb-true}
+use Rattle.std.proofs.Common.{◌≡◌, refl, sym, ap, ◌∙◌, subst, ℕ, Bool, true, false, not, if◌then◌else◌, ◌==◌, ◌&&◌, List, [], ◌∷◌, ◌++◌, Option, Some, None, arith, eq-eqb, eqb-true}
 use Rattle.std.proofs.lemmas.Bool.{and_parts, false≢true}
 use Rattle.ceu_base.specs.declared.kinds.Ty.{Ty}
 use Rattle.ceu_base.specs.declared.kinds.Ty.TheVariants as ty
@@ -13,19 +13,19 @@ use Rattle.ceu_tree.specs.declared.kernel.KNode.{KNode}
 use Rattle.ceu_tree.specs.declared.kernel.KBlock.{KBlock, out-KBlock}
 use Rattle.ceu_tree.specs.declared.kernel.KStmt.{KStmt, out-KStmt, Assign, AwaitIn, AwaitTime, AwaitEvent, AwaitCode, Do, Spawn, Unset, Finalize}
 use Rattle.ceu_tree.specs.declared.kernel.KStmt.TheOpen.{KStmt-F}
-use Rattle.ceu_tree.specs.Residual.{Body, Act}
-use Rattle.ceu_tree.specs.Focus.{Frame, Focus, In}
+use Rattle.ceu_tree.specs.Residual.{Body}
+use Rattle.ceu_tree.specs.Focus.{Frame, Focus}
 use Rattle.ceu_tree.specs.Leaf.{Layer, target_of, code_at}
 use Rattle.ceu_tree.specs.Abort.{finalizer_list}
 use Rattle.ceu_tree.specs.Legal.{finalizers_of, is_finalizer}
 use Rattle.ceu_tree.specs.Numbering.{decl_slots}
 use Rattle.ceu_tree.specs.Typing.{same_ty, holds_all}
-use Rattle.ceu_tree.specs.Proper.{Scope, Seen, SlotKind, IsVariable, IsLoopVariable, IsPool, IsAlias, find, declared_seen, slot_kind, pool_slots, pools_seen, variable_ty, has_ty, is_loop_variable, is_alias, alias_takes, is_pool_of, is_in_code, is_trail, outside_finalizers, looked_up, reads, takes, takes_if, gives, gives_all, on_ty, on_code, is_above, time_ok, port_ty, event_at, event_seen, in_finalizer, with_aim, do_aim, stmt_ok, block_ok, is_proper}
-use Rattle.ceu_legal.specs.Shape.{Part, ABlock, AStatement, AnEnd, block_scope, part_scope, turn_scope, async_scope, code_scope, program_part, opens_part, FrameFits, around_statement, around_end, around_instance, around_part, around_turn, around_call, around_branch, Around, nothing_around, one_around}
+use Rattle.ceu_tree.specs.Proper.{Scope, Seen, SlotKind, IsVariable, IsLoopVariable, IsPool, IsAlias, find, declared_seen, slot_kind, pool_slots, pools_seen, variable_ty, has_ty, is_loop_variable, is_alias, alias_takes, is_pool_of, is_in_code, is_trail, outside_finalizers, looked_up, takes, takes_if, gives, gives_all, on_ty, on_code, is_above, time_ok, port_ty, event_at, event_seen, in_finalizer, with_aim, do_aim, stmt_ok, block_ok}
+use Rattle.ceu_legal.specs.Shape.{Part, ABlock, AStatement, AnEnd, block_scope, part_scope, turn_scope, code_scope, program_part, opens_part, FrameFits, around_statement, around_end, around_instance, around_part, around_turn, around_call, around_branch, Around, nothing_around, one_around}
 use Rattle.ceu_legal.proofs.Static.{names_of, block_static, nodes_fine, BlockOk, StmtOk}
-use Rattle.ceu_living.proofs.Living.{once, often, once_true}
+use Rattle.ceu_living.proofs.Living.{often, once_true}
 use Rattle.ceu_counters.proofs.Cells.{target_apart, apart_from, simple_apart, all_apart, finalizers_apart}
-use Rattle.ceu_counters.proofs.Marks.{stmt_marks, block_marks, codes_marks, kernel_marks, nodes_marks, blocks_marks_all, layer_marks, block_marks_is, nodes_none, list_none, layer_none, part_none, each_none, code_none}
+use Rattle.ceu_counters.proofs.Marks.{stmt_marks, block_marks, kernel_marks, nodes_marks, block_marks_is, nodes_none, list_none, layer_none, part_none, each_none, code_none}
 use denote.Hole.Carrier
 
 left_of : (p q : Bool) → (p && q) ≡ true → p ≡ true

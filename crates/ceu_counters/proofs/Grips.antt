@@ -3,7 +3,6 @@
 use Rattle.std.proofs.Common.{◌≡◌, refl, ap, ◌≤◌, ℕ, ◌+◌, Bool, true, false, if◌then◌else◌, ◌==◌, ◌&&◌, Option, arith}
 use Rattle.std.proofs.lemmas.Bool.{and_parts}
 use Rattle.ceu_tree.specs.declared.kernel.KLoop.{KLoop}
-use Rattle.ceu_tree.specs.declared.kernel.KNode.{KNode}
 use Rattle.ceu_tree.specs.declared.kernel.KBlock.{KBlock}
 use Rattle.ceu_tree.specs.declared.kernel.KStmt.{out-KStmt}
 use Rattle.ceu_tree.specs.declared.kernel.KStmt.TheOpen.{KStmt-F}
@@ -12,7 +11,7 @@ use Rattle.ceu_tree.specs.Focus.{Frame, OfBlock, OfInstance, OfOpen, OfLoop, OfC
 use Rattle.ceu_tree.specs.World.{Cell}
 use Rattle.ceu_tree.specs.Leaf.{Layer}
 use Rattle.ceu_tree.specs.Step.{unseated, unseat_frame, unseat}
-use Rattle.ceu_counters.specs.Counters.{counts_in, turn_stands, head_stands, loop_stands, loops_stand, each_loops_stand, all_loops_stand, frame_loops_stand, at_loop, focus_loops_stand}
+use Rattle.ceu_counters.specs.Counters.{counts_in, loop_stands, loops_stand, each_loops_stand, all_loops_stand, frame_loops_stand, at_loop, focus_loops_stand}
 use Rattle.ceu_counters.proofs.Cells.{is_own}
 
 module _ (b : Body) (x : ℕ) where

@@ -1,7 +1,6 @@
 -- What a leaf does leaves a slot as it was that no declaration has, and opens loops that stand at their head.
-use Rattle.std.proofs.Common.{◌≡◌, refl, sym, ap, ◌∙◌, subst, ◌≤◌, ℕ, ◌+◌, ℤ, pos, ◌+ℤ◌, ◌-ℤ◌, ◌*ℤ◌, int_le, Bool, true, false, if◌then◌else◌, ◌==◌, ◌&&◌, List, [], ◌∷◌, Option, Some, None, Result, Ok, Err, arith}
+use Rattle.std.proofs.Common.{◌≡◌, refl, sym, ap, ◌∙◌, subst, ℕ, ℤ, pos, ◌+ℤ◌, ◌-ℤ◌, ◌*ℤ◌, int_le, Bool, true, false, if◌then◌else◌, ◌&&◌, List, [], ◌∷◌, Option, Some, None, Result, Ok, Err, arith}
 use Rattle.std.proofs.lemmas.Int.{ints}
-use Rattle.std.proofs.lemmas.Bool.{and_parts, false≢true}
 use Rattle.ceu_base.specs.declared.kinds.Pos.{Pos}
 use Rattle.ceu_base.specs.declared.kinds.Ty.{Ty}
 use Rattle.ceu_base.specs.declared.kinds.Fault.{Fault}
@@ -18,15 +17,15 @@ use Rattle.ceu_tree.specs.declared.kernel.KNode.{KNode}
 use Rattle.ceu_tree.specs.declared.kernel.KBlock.{KBlock, out-KBlock}
 use Rattle.ceu_tree.specs.declared.kernel.KStmt.{out-KStmt}
 use Rattle.ceu_tree.specs.declared.kernel.KStmt.TheOpen.{KStmt-F}
-use Rattle.ceu_tree.specs.Residual.{Body, Awaited, same_body, Act, Begin, Start, Finish, AtEnd, AtHead, Again, Counter, Free, Turns, Upward, Run, WaitInput, WaitTime, WaitEvent, WaitForever, InAsync, no_branch, branch, no_instance}
-use Rattle.ceu_tree.specs.Focus.{OfBlock, OfOpen, OfLoop, OfCall, OfPar, Here, In}
+use Rattle.ceu_tree.specs.Residual.{Body, Awaited, same_body, Act, Begin, Start, Finish, AtEnd, AtHead, Again, Counter, Free, Turns, Upward, Run, WaitInput, WaitTime, WaitEvent, WaitForever, InAsync, no_instance}
+use Rattle.ceu_tree.specs.Focus.{OfBlock, OfCall, Here, In}
 use Rattle.ceu_tree.specs.World.{World, Cell, NotSet, Names, marked, assign, assign_if, set, set_parameters, look}
-use Rattle.ceu_tree.specs.Expressions.{Answer, names_living, node_value, value_of, value_if, values_of}
+use Rattle.ceu_tree.specs.Expressions.{names_living, node_value, value_of, value_if, values_of}
 use Rattle.ceu_tree.specs.Paths.{literal}
 use Rattle.ceu_tree.specs.Leaf.{Layer, Escape, Break, Continue, Does, Opens, Waits, Passes, Leaves, Registers, Ends, Heads, Emits, Spawns, Kills, Fails, Done, or_fails, microseconds, clamped, target, code_at, chosen_part, branches_from, in_branches, opened, looping, loop_reached, called, spawning, killing, started, next_of, rest_of, acted}
 use Rattle.ceu_tree.specs.Numbering.{decl_slots}
 use Rattle.ceu_tree.specs.Proper.{is_proper}
-use Rattle.ceu_legal.specs.Shape.{Part, AStatement, begins, heads, goes_again, starts, finishes, ends, ActFits}
+use Rattle.ceu_legal.specs.Shape.{Part, begins, heads, goes_again, starts, finishes, ends, ActFits}
 use Rattle.ceu_legal.proofs.UpFits.{Sound}
 use Rattle.ceu_living.proofs.Living.{often}
 use Rattle.ceu_counters.specs.Counters.{counts_in, from_first, to_last, head_stands, loop_stands, loops_stand, each_loops_stand, all_loops_stand, is_first, focus_loops_stand}

@@ -1,5 +1,5 @@
 -- Where no loop of a kernel counts in a slot, none that is open does.
-use Rattle.std.proofs.Common.{◌≡◌, refl, sym, ap, ◌∙◌, subst, ◌≤◌, ℕ, ◌+◌, Bool, true, false, ◌==◌, ◌&&◌, List, [], ◌∷◌, ◌++◌, Option, Some, arith, eqb-true, eq-eqb}
+use Rattle.std.proofs.Common.{◌≡◌, refl, sym, subst, ◌≤◌, ℕ, Bool, true, false, List, ◌∷◌, ◌++◌, Option, Some, arith, eqb-true, eq-eqb}
 use Rattle.std.proofs.lemmas.Bool.{and_parts, false≢true}
 use Rattle.ceu_tree.specs.declared.kernel.Kernel.{Kernel}
 use Rattle.ceu_tree.specs.declared.kernel.KCode.{KCode}
@@ -7,20 +7,20 @@ use Rattle.ceu_tree.specs.declared.kernel.KLoop.{KLoop}
 use Rattle.ceu_tree.specs.declared.kernel.KLoop.TheVariants as turns
 use Rattle.ceu_tree.specs.declared.kernel.ParKind.{ParKind}
 use Rattle.ceu_tree.specs.declared.kernel.KNode.{KNode}
-use Rattle.ceu_tree.specs.declared.kernel.KBlock.{KBlock, out-KBlock}
+use Rattle.ceu_tree.specs.declared.kernel.KBlock.{KBlock}
 use Rattle.ceu_tree.specs.declared.kernel.KStmt.{out-KStmt}
 use Rattle.ceu_tree.specs.declared.kernel.KStmt.TheOpen.{KStmt-F}
 use Rattle.ceu_tree.specs.Residual.{Body, Program, Awaited, Spawned, Act, Counter, Residual, Branches, Instances}
-use Rattle.ceu_tree.specs.Focus.{Frame, OfBlock, OfInstance, OfPar, Focus, Here, In, body_in}
+use Rattle.ceu_tree.specs.Focus.{Frame, Focus, Here, In, body_in}
 use Rattle.ceu_tree.specs.World.{Cell}
 use Rattle.ceu_tree.specs.Leaf.{code_at}
 use Rattle.ceu_tree.specs.Proper.{Scope}
 use Rattle.ceu_tree.specs.Run.{Config, Turning, Between, Waiting, Ended, Faulted}
 use Rattle.ceu_legal.specs.Shape.{Part, ABlock, AStatement, AnEnd, program_part, Fits, to_begin, to_turn, in_list, to_finish, at_input, at_time, at_event, at_forever, at_async, in_part, in_turn, in_call, in_par, EachFits, no_more, an_ended, a_branch, AllFit, none_lives, one_lives, FrameFits, around_statement, around_end, around_instance, around_part, around_turn, around_call, around_branch, Around, nothing_around, one_around, ConfigFits}
-use Rattle.ceu_living.proofs.Living.{once, often, once_true}
+use Rattle.ceu_living.proofs.Living.{often, once_true}
 use Rattle.ceu_counters.specs.Counters.{counts_in, loop_stands, loops_stand, each_loops_stand, all_loops_stand, frame_loops_stand, is_first, at_loop, focus_loops_stand}
 use Rattle.ceu_counters.proofs.Cells.{cell_in}
-use Rattle.ceu_counters.proofs.Marks.{turn_slots, stmt_marks, block_marks, kernel_marks, blocks_marks_all, layer_marks, list_none, layer_none, part_none, each_none, code_none}
+use Rattle.ceu_counters.proofs.Marks.{turn_slots, stmt_marks, block_marks, kernel_marks, blocks_marks_all, list_none, layer_none, part_none, each_none, code_none}
 
 -- what holds of one slot of one open body in a configuration
 abbrev pub ConfigStands : Body → ℕ → Config → Type 0

@@ -1,29 +1,27 @@
 -- Each step of a reaction of a proper kernel keeps the counters of open loops.
-use Rattle.std.proofs.Common.{◌≡◌, refl, sym, ap, ◌∙◌, subst, ◌≤◌, ◌<◌, ℕ, zero, suc, ◌+◌, ◌*◌, Bool, true, false, if◌then◌else◌, ◌⊎◌, inl, inr, List, length, Option, Some, None, arith}
+use Rattle.std.proofs.Common.{◌≡◌, refl, sym, ap, ◌∙◌, subst, ◌≤◌, ◌<◌, ℕ, zero, suc, ◌+◌, ◌*◌, true, false, if◌then◌else◌, ◌⊎◌, inl, inr, length, Option, Some, None, arith}
 use Rattle.std.proofs.lemmas.Bool.{cases_lt}
 use Rattle.ceu_base.specs.declared.kinds.Pos.{Pos}
 use Rattle.ceu_base.specs.declared.kinds.Fault.{Fault}
-use Rattle.ceu_base.specs.declared.kinds.Mark.TheVariants as mark
 use Rattle.ceu_tree.specs.declared.kernel.Kernel.{Kernel}
-use Rattle.ceu_tree.specs.Residual.{Body, Program, Awaited, Spawned, same_body, Act, Residual, Over}
-use Rattle.ceu_tree.specs.Focus.{Focus, plug, leaf, choose}
-use Rattle.ceu_tree.specs.World.{World, Cell, marked}
+use Rattle.ceu_tree.specs.Residual.{Body, Program, Awaited, Spawned, same_body, Act, Residual}
+use Rattle.ceu_tree.specs.Focus.{Focus, choose}
+use Rattle.ceu_tree.specs.World.{World}
 use Rattle.ceu_tree.specs.Wake.{runs_at}
-use Rattle.ceu_tree.specs.Around.{Outcome, Goes, Rests, Raises, Fails, Past, Registers, AtBlockEnd, AtLoopHead, Ends, Leaves, Moved}
+use Rattle.ceu_tree.specs.Around.{Outcome, Goes, Rests, Raises, Fails, Past, Registers, AtBlockEnd, AtLoopHead, Ends, Leaves}
 use Rattle.ceu_tree.specs.Step.{stepped}
 use Rattle.ceu_tree.specs.Numbering.{block_slots, block_nodes}
 use Rattle.ceu_tree.specs.Proper.{is_proper}
-use Rattle.ceu_tree.specs.Run.{Config, Turning, Between, Waiting, Ended, Faulted, config_of, unless_failed, level_closed, chosen_at, next, steps, booted}
-use Rattle.ceu_laws.proofs.FocusBalance.{Found, FoundIn, choose_found}
+use Rattle.ceu_tree.specs.Run.{Config, Turning, Between, Waiting, Ended, Faulted, config_of, unless_failed, level_closed, chosen_at, next, steps}
+use Rattle.ceu_laws.proofs.FocusBalance.{FoundIn, choose_found}
 use Rattle.ceu_legal.specs.Shape.{TurnFits, ConfigFits, program_part}
 use Rattle.ceu_legal.proofs.RunFits.{root_sound, root_closed, next_fits}
-use Rattle.ceu_values.specs.Ground.{Ground, Numbered}
+use Rattle.ceu_values.specs.Ground.{Ground}
 use Rattle.ceu_values.proofs.Grounds.{program_ground}
-use Rattle.ceu_living.proofs.Living.{often}
 use Rattle.ceu_living.proofs.Trees.{live_focus}
 use Rattle.ceu_living.proofs.Lists.{Counts}
 use Rattle.ceu_living.proofs.Reactions.{ConfigCounts, next_counts}
-use Rattle.ceu_counters.specs.Counters.{loops_stand, is_first, focus_loops_stand}
+use Rattle.ceu_counters.specs.Counters.{loops_stand, is_first}
 use Rattle.ceu_counters.proofs.Cells.{cell_in}
 use Rattle.ceu_counters.proofs.Grips.{point, focus_grip}
 use Rattle.ceu_counters.proofs.Trees.{unplugged}

@@ -1,8 +1,8 @@
 -- The laws on the counters of open loops.
-use Rattle.std.proofs.Common.{◌≡◌, refl, sym, ap, ◌∙◌, subst, ◌≤◌, ℕ, ℤ, pos, ◌+ℤ◌, ◌-ℤ◌, int_le, nat_le, Bool, true, false, ◌==◌, ◌&&◌, ◌||◌, ◌⊎◌, inl, inr, List, Option, Some, None, eq-eqb, arith}
+use Rattle.std.proofs.Common.{◌≡◌, refl, sym, subst, ℕ, ℤ, pos, ◌+ℤ◌, ◌-ℤ◌, int_le, nat_le, Bool, true, false, ◌&&◌, ◌||◌, ◌⊎◌, inl, inr, List, Option, Some, None, eq-eqb}
 use Rattle.std.proofs.lemmas.Bool.{and_from, le-leb, false≢true}
 use Rattle.ceu_base.specs.declared.kinds.Ty.TheVariants as ty
-use Rattle.ceu_base.specs.Values.{is_value, least, same, of_test}
+use Rattle.ceu_base.specs.Values.{is_value, least, same}
 use Rattle.ceu_tree.specs.declared.command.Command.{Command}
 use Rattle.ceu_tree.specs.declared.kernel.Kernel.{Kernel}
 use Rattle.ceu_tree.specs.declared.kernel.KLoop.{KLoop}
@@ -15,16 +15,15 @@ use Rattle.ceu_tree.specs.declared.kernel.KStmt.TheOpen.{KStmt-F}
 use Rattle.ceu_tree.specs.Paths.{literal}
 use Rattle.ceu_tree.specs.Residual.{Body, Program, Awaited, Spawned, same_body, Counter, Free, Turns, Upward, Residual, Branches, Instances}
 use Rattle.ceu_tree.specs.World.{World, Cell, Holds, look}
-use Rattle.ceu_tree.specs.Leaf.{Layer}
-use Rattle.ceu_tree.specs.Legal.{Seated, lies, starts_at, ends_at, range_ok, first_ok, counter_ok}
+use Rattle.ceu_tree.specs.Legal.{Seated, starts_at, ends_at, range_ok, first_ok, counter_ok}
 use Rattle.ceu_tree.specs.Proper.{Scope, is_proper}
-use Rattle.ceu_tree.specs.Run.{Config, Turning, Between, Waiting, Ended, Faulted, booted, next, steps, done, run}
-use Rattle.ceu_legal.specs.Shape.{Part, program_part, counts, Fits, to_begin, to_turn, in_list, to_finish, at_input, at_time, at_event, at_forever, at_async, in_part, in_turn, in_call, in_par, EachFits, no_more, an_ended, a_branch, AllFit, none_lives, one_lives, ConfigFits}
+use Rattle.ceu_tree.specs.Run.{Config, Turning, Between, Waiting, Ended, Faulted, next, steps, done, run}
+use Rattle.ceu_legal.specs.Shape.{Part, counts, Fits, to_begin, to_turn, in_list, to_finish, at_input, at_time, at_event, at_forever, at_async, in_part, in_turn, in_call, in_par, EachFits, no_more, an_ended, a_branch, AllFit, none_lives, one_lives, ConfigFits}
 use Rattle.ceu_legal.proofs.RunFits.{next_fits, steps_fit, done_fits, run_fits}
 use Rattle.ceu_values.proofs.Stores.{same_self}
 use Rattle.ceu_living.specs.Instances.{InstancesStand}
-use Rattle.ceu_living.proofs.Reactions.{ConfigCounts, instances_counted}
-use Rattle.ceu_counters.specs.Counters.{counts_in, from_first, to_last, InRange, turn_stands, loop_stands, loops_stand, each_loops_stand, all_loops_stand, is_first, focus_loops_stand, CountersStand}
+use Rattle.ceu_living.proofs.Reactions.{instances_counted}
+use Rattle.ceu_counters.specs.Counters.{counts_in, from_first, to_last, turn_stands, loop_stands, loops_stand, each_loops_stand, all_loops_stand, CountersStand}
 use Rattle.ceu_counters.specs.Laws.{BootCounters, at_layer, each_loop, branches_each_loop, all_each_loop, counter_typed, counter_legal, RunCountersLegal}
 use Rattle.ceu_counters.proofs.Marks.{kernel_marks, one_kind}
 use Rattle.ceu_counters.proofs.Leaf.{le_self}

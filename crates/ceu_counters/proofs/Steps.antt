@@ -1,5 +1,5 @@
 -- One step of a trail keeps the counters of open loops.
-use Rattle.std.proofs.Common.{◌≡◌, refl, sym, ap, ◌∙◌, subst, ◌≤◌, ◌<◌, ℕ, suc, ◌+◌, ℤ, pos, nat_lt, Bool, true, false, if◌then◌else◌, ◌==◌, ◌⊎◌, inl, inr, List, [], ◌∷◌, Option, Some, None, arith, eqb-true}
+use Rattle.std.proofs.Common.{◌≡◌, refl, sym, ap, ◌∙◌, subst, ◌≤◌, ◌<◌, ℕ, suc, ◌+◌, ℤ, pos, nat_lt, Bool, true, false, if◌then◌else◌, ◌==◌, ◌⊎◌, inl, inr, List, ◌∷◌, Option, Some, None, arith, eqb-true}
 use Rattle.std.proofs.lemmas.Bool.{cases_lt, false≢true}
 use Rattle.ceu_base.specs.declared.kinds.Fault.TheVariants.{SpawnCount}
 use Rattle.ceu_base.specs.declared.kinds.Mark.TheVariants as mark
@@ -16,12 +16,12 @@ use Rattle.ceu_tree.specs.Wake.{by_event}
 use Rattle.ceu_tree.specs.Leaf as does
 use Rattle.ceu_tree.specs.Leaf.{Does, acted, code_at}
 use Rattle.ceu_tree.specs.Around.{Outcome, Goes, Rests, Raises, Fails, Past, Registers, AtBlockEnd, AtLoopHead, Leaves, Moved, moved, answered}
-use Rattle.ceu_tree.specs.Step.{event_code, emitted, size_in, free_place, with_instance, seated_if, seat_frame, seated, spawned_at, spawned, unseated, unseat_frame, unseat, killed_in, kill_frame, killed, does_in, stepped}
+use Rattle.ceu_tree.specs.Step.{event_code, size_in, free_place, with_instance, seated_if, seat_frame, seated, spawned_at, spawned, unseated, unseat_frame, unseat, killed_in, kill_frame, killed, does_in, stepped}
 use Rattle.ceu_tree.specs.Numbering.{decl_slots}
 use Rattle.ceu_tree.specs.Proper.{Scope, is_proper}
-use Rattle.ceu_legal.specs.Shape.{Part, pauses, AllFit, none_lives, one_lives, FrameFits, around_statement, around_end, around_instance, around_part, around_turn, around_call, around_branch, Around, nothing_around, one_around, TurnFits, Comes}
+use Rattle.ceu_legal.specs.Shape.{Part, AllFit, none_lives, one_lives, FrameFits, around_statement, around_end, around_instance, around_part, around_turn, around_call, around_branch, Around, nothing_around, one_around, TurnFits, Comes}
 use Rattle.ceu_legal.proofs.Static.{code_static}
-use Rattle.ceu_legal.proofs.UpFits.{Sound, frame_sound, no_finalizer}
+use Rattle.ceu_legal.proofs.UpFits.{Sound, no_finalizer}
 use Rattle.ceu_legal.proofs.LeafFits.{pauses_no_finalizer, Pausing, DoesFit, acted_fits}
 use Rattle.ceu_legal.proofs.StepFits.{Closed, around_sound, unseated_around}
 use Rattle.ceu_values.proofs.UpValues.{is_head_outcome}
@@ -31,10 +31,10 @@ use Rattle.ceu_counters.proofs.Cells.{cell_in, apart_from, forget_body_apart, se
 use Rattle.ceu_counters.proofs.Grips.{point, grip, grip_all, frame_grip, focus_grip, focus_settled, unseat_frame_less, unseat_body, unseat_less}
 use Rattle.ceu_counters.proofs.Trees.{plugged, grafted, woken_kept}
 use Rattle.ceu_counters.proofs.Marks.{kernel_marks}
-use Rattle.ceu_counters.proofs.Clear.{Clear, code_clear, frame_clear, around_clear}
+use Rattle.ceu_counters.proofs.Clear.{Clear, code_clear, around_clear}
 use Rattle.ceu_counters.proofs.Aborts.{not_body, aborted_kept}
 use Rattle.ceu_counters.proofs.Up.{OutcomeStands, Moves, answered_moves}
-use Rattle.ceu_counters.proofs.Leaf.{DoesStand, ActDone, acted_done}
+use Rattle.ceu_counters.proofs.Leaf.{DoesStand, acted_done}
 
 abbrev is_heads : Does → Bool
 is_heads does.Heads = true

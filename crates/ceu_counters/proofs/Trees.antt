@@ -1,20 +1,18 @@
 -- Open loops of a focus, and of the tree that it is of.
-use Rattle.std.proofs.Common.{◌≡◌, refl, sym, ap, subst, ℕ, ℤ, pos, ◌+ℤ◌, int_le, Bool, true, false, if◌then◌else◌, Option, Some, None, arith}
+use Rattle.std.proofs.Common.{◌≡◌, refl, sym, subst, ℕ, ℤ, pos, ◌+ℤ◌, int_le, Bool, true, false, if◌then◌else◌, Option, Some, None, arith}
 use Rattle.std.proofs.lemmas.Int.{ints}
 use Rattle.ceu_base.specs.Values.{of_test}
 use Rattle.ceu_tree.specs.declared.kernel.KLoop.{KLoop}
 use Rattle.ceu_tree.specs.declared.kernel.KLoop.TheVariants as turns
-use Rattle.ceu_tree.specs.declared.kernel.KExp.{KExp}
-use Rattle.ceu_tree.specs.declared.kernel.KNode.{KNode}
 use Rattle.ceu_tree.specs.declared.kernel.KStmt.{out-KStmt}
 use Rattle.ceu_tree.specs.declared.kernel.KStmt.TheOpen.{KStmt-F}
 use Rattle.ceu_tree.specs.Paths.{literal}
-use Rattle.ceu_tree.specs.Residual.{Body, Awaited, Spawned, Act, Counter, Turns, Upward, Seat, Residual, Over, Run, WaitInput, WaitTime, WaitEvent, WaitForever, InAsync, Block, Open, Loop, Call, Par, Branches, no_branch, branch, Instances, no_instance, instance}
+use Rattle.ceu_tree.specs.Residual.{Body, Awaited, Spawned, Counter, Turns, Upward, Seat, Residual, Over, Run, WaitInput, WaitTime, WaitEvent, WaitForever, InAsync, Block, Open, Loop, Call, Par, Branches, no_branch, branch, Instances, no_instance, instance}
 use Rattle.ceu_tree.specs.Focus.{Frame, OfBlock, OfInstance, OfOpen, OfLoop, OfCall, OfPar, Focus, Here, In, join, join_instances, fill, plug, graft, leaf, body_in, body_of, has_body}
 use Rattle.ceu_tree.specs.World.{Cell}
 use Rattle.ceu_tree.specs.Leaf.{Layer}
 use Rattle.ceu_tree.specs.Wake.{each_leaf, each_in_branches, each_in_instances, each_in_body, woken}
-use Rattle.ceu_counters.specs.Counters.{counts_in, from_first, to_last, InRange, turn_stands, head_stands, loop_stands, loops_stand, each_loops_stand, all_loops_stand, frame_loops_stand, at_loop, focus_loops_stand}
+use Rattle.ceu_counters.specs.Counters.{from_first, turn_stands, head_stands, loop_stands, loops_stand, each_loops_stand, all_loops_stand, frame_loops_stand, at_loop, focus_loops_stand}
 
 -- ---- after a turn the loop's head is reached again
 

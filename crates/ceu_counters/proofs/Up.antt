@@ -1,5 +1,5 @@
 -- What the parts around a leaf do with what it comes to keeps the counters.
-use Rattle.std.proofs.Common.{◌≡◌, refl, sym, ap, ◌∙◌, subst, ◌≤◌, ◌<◌, ℕ, suc, ◌+◌, ℤ, pos, ◌+ℤ◌, int_lt, int_le, Bool, true, false, if◌then◌else◌, ◌==◌, ◌&&◌, ◌⊎◌, inl, inr, List, [], ◌∷◌, ◌++◌, Option, Some, None, arith, eqb-true, eq-eqb}
+use Rattle.std.proofs.Common.{◌≡◌, refl, sym, ap, ◌∙◌, subst, ◌≤◌, ◌<◌, ℕ, suc, ◌+◌, ℤ, pos, ◌+ℤ◌, int_lt, int_le, Bool, true, false, if◌then◌else◌, ◌==◌, ◌&&◌, ◌⊎◌, inl, inr, List, ◌∷◌, Option, Some, arith, eqb-true, eq-eqb}
 use Rattle.std.proofs.lemmas.Bool.{and_parts, and_from, eqb-false, cases_lt, false≢true}
 use Rattle.std.proofs.lemmas.Int.{ints}
 use Rattle.ceu_base.specs.declared.kinds.Fault.TheVariants.{LoopLimit}
@@ -13,25 +13,23 @@ use Rattle.ceu_tree.specs.declared.kernel.KNode.{KNode}
 use Rattle.ceu_tree.specs.declared.kernel.KBlock.{KBlock, out-KBlock}
 use Rattle.ceu_tree.specs.declared.kernel.KStmt.{out-KStmt}
 use Rattle.ceu_tree.specs.declared.kernel.KStmt.TheOpen.{KStmt-F}
-use Rattle.ceu_tree.specs.Residual.{Body, Awaited, Spawned, same_body, Act, Begin, AtHead, Again, Counter, Free, Turns, Upward, Residual, Over, Block, Loop, Par, Branches, branch, Instances}
+use Rattle.ceu_tree.specs.Residual.{Body, Awaited, Spawned, same_body, Act, Begin, Again, Counter, Free, Turns, Upward, Residual, Over, Block, Loop, Par, Branches, branch, Instances}
 use Rattle.ceu_tree.specs.Focus.{Frame, OfBlock, OfInstance, OfOpen, OfLoop, OfCall, OfPar, Focus, Here, In, join, join_instances, fill, plug, leaf, body_in, body_of}
 use Rattle.ceu_tree.specs.World.{World, Cell, Holds, marked, set, assign_if, dead}
-use Rattle.ceu_tree.specs.Abort.{aborted, branches_aborted, closed, forget_loop, returned}
-use Rattle.ceu_tree.specs.Leaf.{Layer, Exit, Escape, Break, Continue, target, target_of, next_of, rest_of}
+use Rattle.ceu_tree.specs.Abort.{aborted, closed, forget_loop, returned}
+use Rattle.ceu_tree.specs.Leaf.{Layer, Exit, Escape, Break, Continue, target, next_of, rest_of}
 use Rattle.ceu_tree.specs.Around.{Outcome, Goes, Rests, Raises, Fails, Past, Registers, AtBlockEnd, AtLoopHead, Ends, Leaves, Moved, moved, value_with, body_left, open_left, again, begins_turn, turn_of, next_turn, loop_exit, loop_left, all_over, kind_of, rejoined, through, up, taken, answered}
-use Rattle.ceu_tree.specs.Legal.{finalizers_of}
-use Rattle.ceu_tree.specs.Paths.{literal}
 use Rattle.ceu_tree.specs.Proper.{is_proper}
-use Rattle.ceu_legal.specs.Shape.{Part, ABlock, AStatement, AllFit, FrameFits, around_statement, around_end, around_instance, around_part, around_turn, around_call, around_branch, Around, nothing_around, one_around, Comes}
+use Rattle.ceu_legal.specs.Shape.{Part, ABlock, FrameFits, around_statement, around_end, around_instance, around_part, around_turn, around_call, around_branch, Around, nothing_around, one_around, Comes}
 use Rattle.ceu_legal.proofs.UpFits.{Sound, frame_sound, up_fits}
 use Rattle.ceu_legal.proofs.StepFits.{Closed}
 use Rattle.ceu_values.proofs.Stores.{same_is}
 use Rattle.ceu_values.proofs.UpValues.{is_head_outcome}
-use Rattle.ceu_counters.specs.Counters.{counts_in, InRange, turn_stands, head_stands, loop_stands, loops_stand, all_loops_stand, each_loops_stand, frame_loops_stand, is_first, at_loop, focus_loops_stand}
-use Rattle.ceu_counters.proofs.Cells.{cell_in, is_own, finalizers_apart, set_apart, set_own, assign_if_apart, forget_body_apart, forget_loop_apart}
-use Rattle.ceu_counters.proofs.Grips.{point, own, grip, grip_each, grip_all, frame_grip, focus_grip, body_point, loop_settled, settled, each_settled, all_settled, frame_settled}
+use Rattle.ceu_counters.specs.Counters.{loop_stands, loops_stand, all_loops_stand, each_loops_stand, frame_loops_stand, is_first, at_loop, focus_loops_stand}
+use Rattle.ceu_counters.proofs.Cells.{cell_in, is_own, set_apart, set_own, assign_if_apart, forget_body_apart, forget_loop_apart}
+use Rattle.ceu_counters.proofs.Grips.{point, own, grip, grip_all, frame_grip, focus_grip, body_point, settled, all_settled, frame_settled}
 use Rattle.ceu_counters.proofs.Trees.{loop_later, frame_later, joined, joined_all, filled}
-use Rattle.ceu_counters.proofs.Marks.{kernel_marks, block_marks}
+use Rattle.ceu_counters.proofs.Marks.{kernel_marks}
 use Rattle.ceu_counters.proofs.Clear.{Clear, target_clear, block_finalizers, frame_clear}
 use Rattle.ceu_counters.proofs.Aborts.{not_own, not_body, closed_kept, end_finalizers, frame_kept, focus_kept}
 
