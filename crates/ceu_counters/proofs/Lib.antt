@@ -1,0 +1,16 @@
+pub mod Cells
+pub mod Grips
+pub mod Trees
+pub mod Marks
+pub mod Clear
+pub mod Bodies
+pub mod Bounds
+pub mod Aborts
+pub mod Up
+pub mod Leaf
+pub mod Steps
+pub mod Loopless
+pub mod Reactions
+pub mod Calms
+pub mod Commands
+pub mod Runs
