@@ -251,7 +251,7 @@ module _ (K : Kernel) (proper : is_proper K ≡ true) (b : Body) (x : ℕ) (clea
     kills_moves k w c first st =
         let less = unseat_less b x k root f in
         let m = answered_moves K proper b x clean n root (unseat k f) Past (killed k f w) d e o q (unseated_around K proper (suc n) k a) ok cl p (omega (arith, l, less)) (after (cases_lt 2 (point b x root + focus_grip b x root (unseat k f)))) tt
-            (λ y. absurd (false≢true (sym first ∙ ap is_first (sym (unseat_leaf k f)) ∙ y))) c in
+        (λ y. absurd (false≢true (sym first ∙ ap is_first (sym (unseat_leaf k f)) ∙ y))) c in
         record { stands = m.stands; kept = λ y. m.kept (omega (arith, less, y)) ∙ killed_kept k root f d e a w (omega (arith, less, y)) }
       where
         after : (2 < point b x root + focus_grip b x root (unseat k f)) ⊎ (point b x root + focus_grip b x root (unseat k f) ≤ 2) → focus_loops_stand b x (cell_in b x (killed k f w)) is_first root (unseat k f)
@@ -286,5 +286,5 @@ module _ (K : Kernel) (proper : is_proper K ≡ true) (b : Body) (x : ℕ) (clea
       let sound = around_sound K proper t.around ok in
       let z = acted_done K proper b x clean n (body_of f root) t.part (leaf f) w sound (around_clear b x K clean t.around cl) t.acts in
       let r = does_moves root f d t.part o q t.around ok cl p l m.does m.world (acted_fits K proper n (body_of f root) t.part (leaf f) w sound t.acts) z.stands (head_does K n (body_of f root) (leaf f) w)
-          (subst (λ y. focus_loops_stand b x y is_first root f) (sym z.same) st) in
+      (subst (λ y. focus_loops_stand b x y is_first root f) (sym z.same) st) in
       record { stands = r.stands; kept = λ u. r.kept u ∙ z.same }
