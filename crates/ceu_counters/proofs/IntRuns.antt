@@ -1,33 +1,31 @@
 -- Steps and reactions keep ranges within an int, and where a run waits the values of their variables are ints.
-use Rattle.std.proofs.Common.{◌≡◌, refl, sym, ap, ◌∙◌, subst, ℕ, zero, suc, ◌+◌, ℤ, pos, ◌+ℤ◌, ◌-ℤ◌, int_lt, int_le, Bool, true, false, not, ◌==◌, ◌&&◌, ◌||◌, ◌⊎◌, inl, inr, Option, Some, None, eq-eqb, arith}
+use Rattle.std.proofs.Common.{◌≡◌, refl, sym, subst, ℕ, zero, suc, ℤ, pos, ◌+ℤ◌, ◌-ℤ◌, int_lt, int_le, Bool, true, false, ◌⊎◌, inl, inr, Option, Some, None, eq-eqb, arith}
 use Rattle.std.proofs.lemmas.Bool.{and_parts, and_from, or_cases}
 use Rattle.std.proofs.lemmas.Int.{ints}
 use Rattle.ceu_base.specs.declared.kinds.Pos.{Pos}
 use Rattle.ceu_base.specs.declared.kinds.Fault.{Fault}
 use Rattle.ceu_base.specs.declared.kinds.Ty.TheVariants as ty
-use Rattle.ceu_base.specs.Values.{is_value, least, above, same, of_test}
+use Rattle.ceu_base.specs.Values.{is_value, least, above, same}
 use Rattle.ceu_tree.specs.declared.kernel.Kernel.{Kernel}
 use Rattle.ceu_tree.specs.declared.kernel.KLoop.{KLoop}
 use Rattle.ceu_tree.specs.declared.kernel.KLoop.TheVariants as turns
-use Rattle.ceu_tree.specs.declared.kernel.KNode.{KNode}
 use Rattle.ceu_tree.specs.declared.kernel.KStmt.{out-KStmt}
 use Rattle.ceu_tree.specs.declared.kernel.KStmt.TheOpen.{KStmt-F}
-use Rattle.ceu_tree.specs.Paths.{literal}
 use Rattle.ceu_tree.specs.Residual.{Body, Program, Awaited, Spawned, same_body, Act, Counter, Upward, Residual, Over, Run, WaitInput, WaitTime, WaitEvent, WaitForever, InAsync, Block, Open, Loop, Call, Par, Branches, no_branch, branch, Instances, no_instance, instance}
 use Rattle.ceu_tree.specs.Focus.{Focus, choose}
 use Rattle.ceu_tree.specs.World.{World, Cell, Holds, look}
 use Rattle.ceu_tree.specs.Wake.{runs_at}
 use Rattle.ceu_tree.specs.Leaf.{Layer}
-use Rattle.ceu_tree.specs.Around.{Outcome, Goes, Rests, Raises, Fails, Past, Registers, AtBlockEnd, AtLoopHead, Ends, Leaves}
+use Rattle.ceu_tree.specs.Around.{Outcome, Goes, Rests, Raises, Fails, Ends}
 use Rattle.ceu_tree.specs.Step.{stepped}
 use Rattle.ceu_tree.specs.Proper.{is_proper}
-use Rattle.ceu_tree.specs.Run.{Config, Turning, Between, Waiting, Ended, Faulted, config_of, unless_failed, level_closed, chosen_at, next, steps, booted}
-use Rattle.ceu_laws.proofs.FocusBalance.{Found, FoundIn, choose_found}
+use Rattle.ceu_tree.specs.Run.{Config, Turning, Between, Waiting, Ended, Faulted, config_of, unless_failed, level_closed, chosen_at, next, steps}
+use Rattle.ceu_laws.proofs.FocusBalance.{FoundIn, choose_found}
 use Rattle.ceu_legal.specs.Shape.{program_part, ConfigFits}
 use Rattle.ceu_legal.proofs.RunFits.{root_sound, root_closed, next_fits}
 use Rattle.ceu_values.proofs.Stores.{same_self}
-use Rattle.ceu_counters.specs.Counters.{counts_in, InRange, turn_stands, loop_stands, loops_stand, each_loops_stand, all_loops_stand, CountersStand}
-use Rattle.ceu_counters.specs.Ints.{last_int, RangeInt, turns_int, layer_int, tree_int, each_int, all_int, outcome_int, IntsStand, EndsInt}
+use Rattle.ceu_counters.specs.Counters.{counts_in, turn_stands, loop_stands, loops_stand, each_loops_stand, all_loops_stand}
+use Rattle.ceu_counters.specs.Ints.{RangeInt, turns_int, layer_int, tree_int, each_int, all_int, outcome_int, IntsStand, EndsInt}
 use Rattle.ceu_counters.specs.Laws.{at_layer, each_loop, branches_each_loop, all_each_loop, counter_typed, BootInts, WaitingTyped}
 use Rattle.ceu_counters.proofs.IntTrees.{le_is, unplugged}
 use Rattle.ceu_counters.proofs.IntSteps.{stepped_int}

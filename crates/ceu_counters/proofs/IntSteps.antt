@@ -1,5 +1,5 @@
 -- A step keeps ranges within an int, where the ends of one that begins give ints.
-use Rattle.std.proofs.Common.{◌≡◌, refl, sym, ap, ◌∙◌, subst, ℕ, suc, ◌+◌, ℤ, pos, ◌+ℤ◌, ◌-ℤ◌, int_lt, int_le, nat_lt, Bool, true, false, not, if◌then◌else◌, ◌==◌, ◌&&◌, ◌||◌, ◌⊎◌, inl, inr, List, [], ◌∷◌, Option, Some, None, Result, Ok, Err}
+use Rattle.std.proofs.Common.{◌≡◌, refl, sym, ap, ◌∙◌, subst, ℕ, suc, ◌+◌, ℤ, pos, ◌+ℤ◌, ◌-ℤ◌, int_lt, int_le, nat_lt, Bool, true, false, if◌then◌else◌, ◌==◌, List, [], ◌∷◌, Option, Some, None, Result, Ok, Err}
 use Rattle.std.proofs.lemmas.Bool.{and_parts, and_from, or_left, or_right, false≢true}
 use Rattle.std.proofs.lemmas.Int.{ints}
 use Rattle.std.proofs.Common.{arith}
@@ -7,7 +7,7 @@ use Rattle.ceu_base.specs.declared.kinds.Pos.{Pos}
 use Rattle.ceu_base.specs.declared.kinds.Fault.{Fault}
 use Rattle.ceu_base.specs.declared.kinds.Ty.TheVariants as ty
 use Rattle.ceu_base.specs.declared.kinds.Mark.TheVariants as mark
-use Rattle.ceu_base.specs.Values.{is_value, least, above, same, of_test}
+use Rattle.ceu_base.specs.Values.{is_value, least, above, of_test}
 use Rattle.ceu_tree.specs.declared.kernel.Kernel.{Kernel}
 use Rattle.ceu_tree.specs.declared.kernel.KCode.{KCode}
 use Rattle.ceu_tree.specs.declared.kernel.KLoop.{KLoop}
@@ -34,7 +34,7 @@ use Rattle.ceu_legal.proofs.LeafFits.{DoesFit, acted_fits}
 use Rattle.ceu_legal.proofs.StepFits.{Closed, around_sound, unseated_around}
 use Rattle.ceu_values.proofs.UpValues.{is_head_outcome}
 use Rattle.ceu_counters.specs.Counters.{is_first, at_loop}
-use Rattle.ceu_counters.specs.Ints.{last_int, RangeInt, turns_int, layer_int, tree_int, each_int, all_int, frame_int, focus_int, outcome_int, gives_int, layer_ends, act_ends}
+use Rattle.ceu_counters.specs.Ints.{last_int, RangeInt, turns_int, layer_int, tree_int, each_int, all_int, frame_int, focus_int, outcome_int, layer_ends, act_ends}
 use Rattle.ceu_counters.proofs.IntTrees.{le_is, frame_later, joined, joined_all, filled, plugged, grafted, woken_kept}
 use Rattle.ceu_counters.proofs.Steps.{is_heads, head_does, not_first, unseat_leaf, pausing_past}
 

@@ -1,11 +1,10 @@
 -- Trees, frames and turns whose ranges count within an int.
-use Rattle.std.proofs.Common.{◌≡◌, refl, sym, ap, subst, ℕ, ℤ, pos, ◌+ℤ◌, int_le, Bool, true, false, not, if◌then◌else◌, Option, Some, None, arith}
+use Rattle.std.proofs.Common.{◌≡◌, refl, subst, ℕ, ℤ, ◌+ℤ◌, int_le, Bool, true, false, if◌then◌else◌, Option, Some, None, arith}
 use Rattle.std.proofs.lemmas.Int.{ints}
 use Rattle.ceu_base.specs.declared.kinds.Ty.TheVariants as ty
 use Rattle.ceu_base.specs.Values.{least, of_test}
 use Rattle.ceu_tree.specs.declared.kernel.KLoop.{KLoop}
 use Rattle.ceu_tree.specs.declared.kernel.KLoop.TheVariants as turns
-use Rattle.ceu_tree.specs.declared.kernel.KNode.{KNode}
 use Rattle.ceu_tree.specs.declared.kernel.KStmt.{out-KStmt}
 use Rattle.ceu_tree.specs.declared.kernel.KStmt.TheOpen.{KStmt-F}
 use Rattle.ceu_tree.specs.Residual.{Act, Counter, Upward, Seat, Residual, Over, Run, WaitInput, WaitTime, WaitEvent, WaitForever, InAsync, Block, Open, Loop, Call, Par, Branches, no_branch, branch, Instances, no_instance, instance}
