@@ -28,7 +28,7 @@ use Rattle.ceu_counters.specs.Counters.{counts_in, turn_stands, loop_stands, loo
 use Rattle.ceu_counters.specs.Ints.{RangeInt, turns_int, layer_int, tree_int, each_int, all_int, outcome_int, IntsStand, EndsInt}
 use Rattle.ceu_counters.specs.Laws.{at_layer, each_loop, branches_each_loop, all_each_loop, counter_typed, BootInts, WaitingTyped}
 use Rattle.ceu_counters.proofs.IntTrees.{le_is, unplugged}
-use Rattle.ceu_counters.proofs.IntSteps.{stepped_int}
+use Rattle.ceu_counters.proofs.IntSteps.{next_int, stepped_int}
 
 pub boot_ints : BootInts
 unfolding tree_int
@@ -96,6 +96,10 @@ value_int u next last e l h = and_from (int_le (least ty.S32) u) (int_lt u (abov
     to : (is_value ty.S32 last ≡ true) ⊎ (same last (least ty.S32 -ℤ pos 1) ≡ true) → int_lt u (above ty.S32) ≡ true
     to (inl q) = below (and_parts (int_le (least ty.S32) last) (int_lt last (above ty.S32)) q).1
     to (inr q) = let a = (and_parts (int_le last (least ty.S32 -ℤ pos 1)) (int_le (least ty.S32 -ℤ pos 1) last) q).0 in let b = from in absurd (omega (arith, ints, a, b, l))
+
+-- the value of a turn that begins
+pub begun_int : (first : Bool) (v last : ℤ) → RangeInt first v last → int_lt last v ≡ false → is_value ty.S32 v ≡ true
+begun_int first v last h q = value_int v (v +ℤ pos 1) last refl (le_is v last (λ e. omega (arith, ints, e, q))) (next_int first v last h)
 
 same_held : (u v : ℤ) (o : Option Cell) → o ≡ Some (Holds v) → o ≡ Some (Holds u) → v ≡ u
 same_held u v o p q = cc

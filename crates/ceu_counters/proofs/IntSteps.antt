@@ -64,7 +64,7 @@ either true x y h k = h refl
 either false x y h k = k refl
 
 -- a turn that begins takes the next value, which an int has
-next_int : (first : Bool) (v last : ℤ) → RangeInt first v last → RangeInt false (v +ℤ pos 1) last
+pub next_int : (first : Bool) (v last : ℤ) → RangeInt first v last → RangeInt false (v +ℤ pos 1) last
 next_int true v last h = let a = h.from in record { from = le_is (least ty.S32 +ℤ of_test true) (v +ℤ pos 1) (λ e. omega (arith, ints, e, a)); to = h.to }
 next_int false v last h = let a = h.from in record { from = le_is (least ty.S32 +ℤ of_test true) (v +ℤ pos 1) (λ e. omega (arith, ints, e, a)); to = h.to }
 
