@@ -14,3 +14,6 @@ pub mod Reactions
 pub mod Calms
 pub mod Commands
 pub mod Runs
+pub mod IntTrees
+pub mod IntSteps
+pub mod IntRuns

@@ -36,11 +36,11 @@ use Rattle.ceu_counters.proofs.Aborts.{not_body, aborted_kept}
 use Rattle.ceu_counters.proofs.Up.{OutcomeStands, Moves, answered_moves}
 use Rattle.ceu_counters.proofs.Leaf.{DoesStand, acted_done}
 
-abbrev is_heads : Does → Bool
+abbrev pub is_heads : Does → Bool
 is_heads does.Heads = true
 is_heads y = false
 
-head_does : (K : Kernel) (n : ℕ) (here : Body) (a : Act) (w : World) → is_first a ≡ true → is_heads (acted K n here a w).does ≡ true
+pub head_does : (K : Kernel) (n : ℕ) (here : Body) (a : Act) (w : World) → is_first a ≡ true → is_heads (acted K n here a w).does ≡ true
 head_does K n here AtHead w h = refl
 head_does K n here (Begin c) w h = absurd (false≢true h)
 head_does K n here (Start s) w h = absurd (false≢true h)
@@ -48,12 +48,16 @@ head_does K n here (Finish s v) w h = absurd (false≢true h)
 head_does K n here AtEnd w h = absurd (false≢true h)
 head_does K n here Again w h = absurd (false≢true h)
 
-not_first : (f : Focus Act) (y : Does) → (is_first (leaf f) ≡ true → is_heads y ≡ true) → is_heads y ≡ false → is_first (leaf f) ≡ false
+pub not_first : (f : Focus Act) (y : Does) → (is_first (leaf f) ≡ true → is_heads y ≡ true) → is_heads y ≡ false → is_first (leaf f) ≡ false
 not_first f y h e = go (is_first (leaf f)) refl
   where
     go : (t : Bool) → is_first (leaf f) ≡ t → t ≡ false
     go false q = refl
     go true q = absurd (false≢true (sym e ∙ h q))
+
+-- a statement that spawns is gone past
+pub pausing_past : (K : Kernel) (proper : is_proper K ≡ true) (n : ℕ) {e : Part} {s : KNode} → Pausing K proper n e s → Comes K n e Past
+pausing_past K proper n {s = s} z = subst (λ y. Comes K n y Past) (sym z.is) (no_finalizer s (out-KStmt s.stmt) refl (pauses_no_finalizer (out-KStmt s.stmt) z.pausing))
 
 module _ (b : Body) (x : ℕ) (cell : Option Cell) where
   by_event_stands : (level event : ℕ) (v : ℤ) (here : Body) (r : Residual) → loops_stand b x cell here r → loops_stand b x cell here (by_event level event v r)
@@ -144,7 +148,7 @@ module _ (b : Body) (x : ℕ) (cell : Option Cell) where
     subst (λ d. focus_loops_stand b x cell is_first d (unseat k f)) (sym (unseat_body b x k here fr)) (unseat_stands k (body_in fr here) f h.1),
   )
 
-unseat_leaf : (k : ℕ) (f : Focus Act) → leaf (unseat k f) ≡ leaf f
+pub unseat_leaf : (k : ℕ) (f : Focus Act) → leaf (unseat k f) ≡ leaf f
 unseat_leaf k (Here a) = refl
 unseat_leaf k (In fr f) = unseat_leaf k f
 
@@ -203,9 +207,6 @@ module _ (K : Kernel) (proper : is_proper K ≡ true) (b : Body) (x : ℕ) (clea
         body : Body
         body = body_of f root
 
-        past : Comes K n e Past
-        past = subst (λ y. Comes K n y Past) (sym z.is) (no_finalizer s (out-KStmt s.stmt) refl (pauses_no_finalizer (out-KStmt s.stmt) z.pausing))
-
         empty : World
         empty = set_alias body alias NotSet w
 
@@ -243,7 +244,7 @@ module _ (K : Kernel) (proper : is_proper K ≡ true) (b : Body) (x : ℕ) (clea
           | Some place ↦ spawned_at n body f s c code pool place alias vs w
         ])
         go None =
-            let m = answered_moves K proper b x clean n root f Past (marked mark.Full empty) d e o q a ok cl p l (subst (λ y. focus_loops_stand b x y is_first root f) (sym same) st) tt (λ y. absurd (false≢true (sym first ∙ y))) past in
+            let m = answered_moves K proper b x clean n root f Past (marked mark.Full empty) d e o q a ok cl p l (subst (λ y. focus_loops_stand b x y is_first root f) (sym same) st) tt (λ y. absurd (false≢true (sym first ∙ y))) (pausing_past K proper n z) in
             record { stands = m.stands; kept = λ y. m.kept y ∙ same }
         go (Some place) = at place
 
@@ -251,7 +252,7 @@ module _ (K : Kernel) (proper : is_proper K ≡ true) (b : Body) (x : ℕ) (clea
     kills_moves k w c first st =
         let less = unseat_less b x k root f in
         let m = answered_moves K proper b x clean n root (unseat k f) Past (killed k f w) d e o q (unseated_around K proper (suc n) k a) ok cl p (omega (arith, l, less)) (after (cases_lt 2 (point b x root + focus_grip b x root (unseat k f)))) tt
-            (λ y. absurd (false≢true (sym first ∙ ap is_first (sym (unseat_leaf k f)) ∙ y))) c in
+        (λ y. absurd (false≢true (sym first ∙ ap is_first (sym (unseat_leaf k f)) ∙ y))) c in
         record { stands = m.stands; kept = λ y. m.kept (omega (arith, less, y)) ∙ killed_kept k root f d e a w (omega (arith, less, y)) }
       where
         after : (2 < point b x root + focus_grip b x root (unseat k f)) ⊎ (point b x root + focus_grip b x root (unseat k f) ≤ 2) → focus_loops_stand b x (cell_in b x (killed k f w)) is_first root (unseat k f)
@@ -286,5 +287,5 @@ module _ (K : Kernel) (proper : is_proper K ≡ true) (b : Body) (x : ℕ) (clea
       let sound = around_sound K proper t.around ok in
       let z = acted_done K proper b x clean n (body_of f root) t.part (leaf f) w sound (around_clear b x K clean t.around cl) t.acts in
       let r = does_moves root f d t.part o q t.around ok cl p l m.does m.world (acted_fits K proper n (body_of f root) t.part (leaf f) w sound t.acts) z.stands (head_does K n (body_of f root) (leaf f) w)
-          (subst (λ y. focus_loops_stand b x y is_first root f) (sym z.same) st) in
+      (subst (λ y. focus_loops_stand b x y is_first root f) (sym z.same) st) in
       record { stands = r.stands; kept = λ u. r.kept u ∙ z.same }

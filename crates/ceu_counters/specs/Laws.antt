@@ -17,6 +17,7 @@ use Rattle.ceu_tree.specs.Run.{Config, Waiting, booted, next, steps, done, run}
 use Rattle.ceu_legal.specs.Shape.{ConfigFits}
 use Rattle.ceu_living.specs.Instances.{InstancesStand}
 use Rattle.ceu_counters.specs.Counters.{CountersStand}
+use Rattle.ceu_counters.specs.Ints.{IntsStand, EndsInt}
 
 abbrev pub BootCounters : Type 0
 BootCounters = (K : Kernel) → CountersStand (booted K)
@@ -73,3 +74,19 @@ abbrev pub RunCountersLegal : Type 0
 RunCountersLegal =
     (K : Kernel) (n : ℕ) (xs : List Command) (r : Residual) (w : World) (found : List Seated) → Proper K → run K n xs ≡ Waiting r w → each_loop (counter_typed w) Program r
     → each_loop (counter_legal K w found) Program r
+
+-- ---- ranges that count within an int
+
+abbrev pub BootInts : Type 0
+BootInts = (K : Kernel) → IntsStand (booted K)
+
+-- where the ends of a range that begins give ints
+abbrev pub StepInts : Type 0
+StepInts = (K : Kernel) (c : Config) → Proper K → ConfigFits K c → EndsInt c → IntsStand c → IntsStand (next K c)
+
+abbrev pub ReactionInts : Type 0
+ReactionInts = (K : Kernel) (n : ℕ) (c : Config) → Proper K → ConfigFits K c → ((j : ℕ) → EndsInt (steps K j c)) → IntsStand c → IntsStand (steps K n c)
+
+-- what waits then has values of their type in its ranges
+abbrev pub WaitingTyped : Type 0
+WaitingTyped = (r : Residual) (w : World) → CountersStand (Waiting r w) → IntsStand (Waiting r w) → each_loop (counter_typed w) Program r

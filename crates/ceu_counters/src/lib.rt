@@ -7,11 +7,15 @@
 
 ghost use Rattle.ceu_counters.specs.Laws.{
   BootCounters,
+  BootInts,
   CommandCounters,
   ReactionCounters,
+  ReactionInts,
   RunCounters,
   RunCountersLegal,
   StepCounters,
+  StepInts,
+  WaitingTyped,
 };
 
 /// At the start no loop is open.
@@ -42,4 +46,24 @@ pub fn run_counters()
 /// Where such a run waits, they are as a legal configuration has them, where the values of ranges have their type.
 pub fn run_counters_legal()
     ensures { RunCountersLegal }
+{}
+
+/// At the start no range is open.
+pub fn boot_ints()
+    ensures { BootInts }
+{}
+
+/// A step keeps the open ranges within an int, where the ends of a range that begins give ints.
+pub fn step_ints()
+    ensures { StepInts }
+{}
+
+/// So do the steps of a reaction, where each range that begins in it has such ends.
+pub fn reaction_ints()
+    ensures { ReactionInts }
+{}
+
+/// Where the counters stand and the ranges are within an int, what waits has values of their type in its ranges.
+pub fn waiting_typed()
+    ensures { WaitingTyped }
 {}
