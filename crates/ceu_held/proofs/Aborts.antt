@@ -1,5 +1,5 @@
 -- An abortion leaves each value that lies outside the part that is aborted, and no other.
-use Rattle.std.proofs.Common.{◌≡◌, refl, sym, ap, ◌∙◌, subst, ◌≤◌, ℕ, ◌+◌, ℤ, true, false, ◌⊎◌, inl, inr, List, [], ◌∷◌, ◌++◌, Option, Some, None, Ok, Err, arith}
+use Rattle.std.proofs.Common.{◌≡◌, refl, sym, ap, subst, ℕ, ◌+◌, ℤ, true, false, inl, List, [], ◌∷◌, ◌++◌, Option, Some, None, Ok, Err, arith}
 use Rattle.ceu_base.specs.declared.kinds.Pos.{Pos}
 use Rattle.ceu_base.specs.declared.kinds.Fault.{Fault}
 use Rattle.ceu_base.specs.declared.kinds.Mark.TheVariants.{Output, Ran}
@@ -12,19 +12,18 @@ use Rattle.ceu_tree.specs.declared.kernel.KNode.{KNode}
 use Rattle.ceu_tree.specs.declared.kernel.KBlock.{KBlock, out-KBlock}
 use Rattle.ceu_tree.specs.declared.kernel.KStmt.{KStmt, Assign, Out, out-KStmt}
 use Rattle.ceu_tree.specs.declared.kernel.KStmt.TheOpen.{KStmt-F}
-use Rattle.ceu_tree.specs.Residual.{Body, Program, Awaited, Spawned, Act, Counter, Residual, Over, Branches, no_branch, branch, Instances, no_instance, instance}
-use Rattle.ceu_tree.specs.Focus.{Frame, OfBlock, OfInstance, OfOpen, OfLoop, OfCall, OfPar, Focus, Here, In, join, join_instances, fill, plug, body_in}
-use Rattle.ceu_tree.specs.World.{Holds, Held, World, marked, assign, assign_if, place_of, forget_declared, forget_body, dead}
+use Rattle.ceu_tree.specs.Residual.{Body, Program, Awaited, Spawned, Counter, Residual, Branches, Instances, no_instance, instance}
+use Rattle.ceu_tree.specs.Focus.{OfBlock, OfOpen, OfLoop, OfCall, join_instances}
+use Rattle.ceu_tree.specs.World.{Holds, Held, World, marked, assign, assign_if, place_of, forget_declared, dead}
 use Rattle.ceu_tree.specs.Expressions.{Answer, value_of, value_if}
-use Rattle.ceu_tree.specs.Abort.{or_fault, simple, unless_fault, all_simple, finalizer_list, runs_one, finalized, forget_loop, aborted, branches_aborted, instances_aborted, closed}
-use Rattle.ceu_tree.specs.Leaf.{Layer, code_at}
+use Rattle.ceu_tree.specs.Abort.{or_fault, simple, unless_fault, all_simple, finalizer_list, runs_one, finalized, aborted, branches_aborted, instances_aborted}
+use Rattle.ceu_tree.specs.Leaf.{code_at}
 use Rattle.ceu_tree.specs.Legal.{finalizers_of, called_code}
 use Rattle.ceu_tree.specs.Proper.{Scope, in_finalizer, reads, stmt_ok, is_proper}
-use Rattle.ceu_legal.specs.Shape.{Part, ABlock, AStatement, block_scope, part_scope, turn_scope, code_scope, code_part, opens_part, counts, Fits, to_begin, to_turn, in_list, to_finish, at_input, at_time, at_event, at_forever, at_async, in_part, in_turn, in_call, in_par, EachFits, no_more, an_ended, a_branch, AllFit, none_lives, one_lives, FrameFits, around_statement, around_end, around_instance, around_part, around_turn, around_call, around_branch, Around, nothing_around, one_around}
+use Rattle.ceu_legal.specs.Shape.{Part, ABlock, AStatement, block_scope, part_scope, turn_scope, code_scope, code_part, opens_part, counts, Fits, to_begin, to_turn, in_list, to_finish, at_input, at_time, at_event, at_forever, at_async, in_part, in_turn, in_call, in_par, EachFits, no_more, an_ended, a_branch, AllFit, none_lives, one_lives, FrameFits, around_statement, around_part, around_turn, around_call}
 use Rattle.ceu_legal.proofs.Static.{nodes_fine, each_fine, block_static, names_of, code_static}
-use Rattle.ceu_legal.proofs.UpFits.{Sound, layer_of, list_sound, part_sound, frame_sound}
-use Rattle.ceu_values.proofs.FocusSpares.{branches_joined}
-use Rattle.ceu_held.proofs.Slots.{decls_room, layer_room, code_room, room, each_room, all_room, frame_room, focus_room}
+use Rattle.ceu_legal.proofs.UpFits.{Sound, layer_of, list_sound, part_sound}
+use Rattle.ceu_held.proofs.Slots.{decls_room, layer_room, code_room, room, each_room, all_room, frame_room}
 use Rattle.ceu_held.proofs.Values.{Lie, lie_more, lie_put, lie_forget_declared, lie_forget_loop, lie_forget_body}
 use Rattle.ceu_held.proofs.Covers.{Own, Outer, Covers, own_more, covers_more, program_seen, outer_inside, code_own, block_own, frame_covers, loc_own}
 use Rattle.ceu_held.proofs.Writes.{target_takes, assign_reads, finalizer_fine, finalizers_fine, front_fine}

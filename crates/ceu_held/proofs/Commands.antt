@@ -1,5 +1,5 @@
 -- Commands and runs of a proper kernel keep each value in an open slot of its kind.
-use Rattle.std.proofs.Common.{◌≡◌, refl, sym, ap, ◌∙◌, subst, ◌≤◌, ℕ, zero, suc, ◌+◌, ◌-◌, ℤ, pos, nat_le, Bool, true, false, if◌then◌else◌, ◌==◌, inl, List, [], ◌∷◌, Option, Some, None, arith}
+use Rattle.std.proofs.Common.{◌≡◌, refl, ap, subst, ℕ, zero, suc, ◌+◌, ◌-◌, ℤ, pos, nat_le, Bool, true, false, if◌then◌else◌, ◌==◌, inl, List, [], ◌∷◌, Option, Some, None, arith}
 use Rattle.std.proofs.lemmas.Bool.{false≢true}
 use Rattle.ceu_tree.specs.declared.command.Command.{Command}
 use Rattle.ceu_tree.specs.declared.command.Command.TheVariants.{Input, Advance, Idle}
@@ -22,17 +22,17 @@ use Rattle.ceu_legal.specs.Shape.{Part, ABlock, AStatement, program_part, async_
 use Rattle.ceu_legal.proofs.Fits.{around_raised, plug_fits}
 use Rattle.ceu_legal.proofs.Leaves.{leaves_fit, by_input_fits, by_time_fits, later_fits, round_fits}
 use Rattle.ceu_legal.proofs.Choice.{ChoiceFits, choice_fits}
-use Rattle.ceu_legal.proofs.UpFits.{Sound, layer_of}
+use Rattle.ceu_legal.proofs.UpFits.{layer_of}
 use Rattle.ceu_legal.proofs.StepFits.{around_sound, stepped_fits}
 use Rattle.ceu_legal.proofs.RunFits.{root_sound, turn_of_chosen, steps_fit, booted_fits, async_leaf, idle_turn_fits, done_fits}
 use Rattle.ceu_living.proofs.Living.{lives}
-use Rattle.ceu_living.proofs.Trees.{live_focus, plug_lives, plugged}
+use Rattle.ceu_living.proofs.Trees.{live_focus, plug_lives}
 use Rattle.ceu_living.proofs.Rooms.{acted_room}
 use Rattle.ceu_living.proofs.Steps.{SpawnFine}
 use Rattle.ceu_living.proofs.Reactions.{ConfigCounts, counts_same, found_stands, steps_counts, booted_counts}
-use Rattle.ceu_living.proofs.Commands.{by_input_calm, by_time_calm, later_calm, round_calm, TreeCounts, leaves_counts, AsyncPart, apart_fine, ServedCounts, first_counts, unserved_lives, unserved_stands, after_counts, idle_turn_counts, done_counts}
+use Rattle.ceu_living.proofs.Commands.{by_input_calm, by_time_calm, later_calm, round_calm, TreeCounts, leaves_counts, AsyncPart, apart_fine, first_counts, unserved_lives, unserved_stands, after_counts, idle_turn_counts, done_counts}
 use Rattle.ceu_held.proofs.Slots.{room, focus_room, Calm, leaves_room, plug_room}
-use Rattle.ceu_held.proofs.Values.{Lie, lie_more}
+use Rattle.ceu_held.proofs.Values.{lie_more}
 use Rattle.ceu_held.proofs.Covers.{Covers, covers_more, around_covers}
 use Rattle.ceu_held.proofs.Aborts.{lie_rest, LieIn}
 use Rattle.ceu_held.proofs.Steps.{left_whole}

@@ -1,6 +1,6 @@
 -- Each slot that is seen from a place is open around it.
-use Rattle.std.proofs.Common.{◌≡◌, refl, sym, ap, ◌∙◌, subst, ◌≤◌, ℕ, ◌+◌, Bool, true, false, if◌then◌else◌, ◌==◌, ◌&&◌, ◌⊎◌, inl, inr, List, [], ◌∷◌, Option, Some, None, arith, eqb-true, eq-eqb}
-use Rattle.std.proofs.lemmas.Bool.{and_parts, and_from, false≢true}
+use Rattle.std.proofs.Common.{◌≡◌, refl, sym, ap, ◌∙◌, subst, ◌≤◌, ℕ, ◌+◌, Bool, true, false, if◌then◌else◌, ◌==◌, ◌⊎◌, inl, inr, List, [], ◌∷◌, Option, Some, None, arith}
+use Rattle.std.proofs.lemmas.Bool.{and_from, false≢true}
 use Rattle.ceu_base.specs.declared.kinds.Ty.{Ty}
 use Rattle.ceu_base.specs.declared.kinds.Ty.TheVariants as ty
 use Rattle.ceu_tree.specs.declared.kernel.Kernel.{Kernel}
@@ -15,14 +15,14 @@ use Rattle.ceu_tree.specs.declared.kernel.KBlock.{KBlock, out-KBlock}
 use Rattle.ceu_tree.specs.declared.kernel.KStmt.{out-KStmt}
 use Rattle.ceu_tree.specs.declared.kernel.KStmt.TheOpen.{KStmt-F}
 use Rattle.ceu_tree.specs.Residual.{Body, Program, Awaited, Spawned}
-use Rattle.ceu_tree.specs.Focus.{Frame, OfInstance, body_in}
+use Rattle.ceu_tree.specs.Focus.{Frame, body_in}
 use Rattle.ceu_tree.specs.World.{Cell, Holds, NotSet, Names, Held, place_of}
 use Rattle.ceu_tree.specs.Leaf.{Layer, code_at}
 use Rattle.ceu_tree.specs.Legal.{lies, called_code}
-use Rattle.ceu_tree.specs.Proper.{SlotKind, IsVariable, IsLoopVariable, IsPool, IsAlias, Seen, Scope, find, slot_kind, declared_seen, variable_ty, has_ty, is_in_code, is_alias, alias_takes, looked_up, reads}
+use Rattle.ceu_tree.specs.Proper.{SlotKind, IsVariable, IsLoopVariable, IsPool, IsAlias, Seen, Scope, find, slot_kind, declared_seen, variable_ty, has_ty, is_in_code, is_alias, alias_takes, reads}
 use Rattle.ceu_legal.specs.Shape.{Part, ABlock, AStatement, AnEnd, block_scope, part_scope, turn_scope, code_scope, opens_part, FrameFits, around_statement, around_end, around_instance, around_part, around_turn, around_call, around_branch, Around, nothing_around, one_around}
 use Rattle.ceu_values.proofs.Stores.{same_self}
-use Rattle.ceu_tree.specs.Focus.{Focus, Here, In, body_of}
+use Rattle.ceu_tree.specs.Focus.{Focus, In, body_of}
 use Rattle.ceu_held.specs.Held.{is_of_kind}
 use Rattle.ceu_held.proofs.Slots.{once, at_room, decls_room, turns_room, layer_room, code_room, frame_room, focus_room}
 use Rattle.ceu_held.proofs.Values.{held}
@@ -68,7 +68,7 @@ module _ (K : Kernel) (g : ℕ) where
 
   -- ---- declarations
 
-  kind_same : (pools : List ℕ) (k : KKind) (cell : Cell) → slot_is (slot_kind pools k) cell ≡ is_of_kind g k cell
+  pub kind_same : (pools : List ℕ) (k : KKind) (cell : Cell) → slot_is (slot_kind pools k) cell ≡ is_of_kind g k cell
   kind_same pools (kind.Var t) (Holds v) = refl
   kind_same pools (kind.Var t) NotSet = refl
   kind_same pools (kind.Var t) (Names n) = refl

@@ -1,6 +1,6 @@
 -- What a step does to how many numbers were given: it gives some or none. A value lies where it lay when more were given.
-use Rattle.std.proofs.Common.{◌≡◌, refl, sym, ap, ◌∙◌, ◌≤◌, ℕ, ◌+◌, ℤ, pos, Bool, true, false, if◌then◌else◌, ◌==◌, ◌&&◌, List, [], ◌∷◌, Option, Some, None, arith}
-use Rattle.std.proofs.lemmas.Bool.{and_parts, and_from, leb-true, le-leb, false≢true}
+use Rattle.std.proofs.Common.{◌≡◌, refl, ap, ◌∙◌, ◌≤◌, ℕ, ◌+◌, ℤ, pos, Bool, true, false, if◌then◌else◌, ◌==◌, List, [], ◌∷◌, Option, Some, None, arith}
+use Rattle.std.proofs.lemmas.Bool.{and_parts, and_from, leb-true, le-leb}
 use Rattle.ceu_base.specs.declared.kinds.Fault.TheVariants.{SpawnCount}
 use Rattle.ceu_base.specs.declared.kinds.Mark.TheVariants as mark
 use Rattle.ceu_base.specs.declared.kinds.Ty.TheVariants as ty
@@ -15,7 +15,7 @@ use Rattle.ceu_tree.specs.declared.kernel.KNode.{KNode}
 use Rattle.ceu_tree.specs.declared.kernel.KBlock.{out-KBlock}
 use Rattle.ceu_tree.specs.declared.kernel.KStmt.{out-KStmt}
 use Rattle.ceu_tree.specs.declared.kernel.KStmt.TheOpen.{KStmt-F}
-use Rattle.ceu_tree.specs.Residual.{Body, Awaited, Spawned as InstanceBody, Act, Begin, Finish, Seat, Residual, Over, Run, WaitInput, WaitTime, WaitEvent, WaitForever, InAsync, Block, Open, Loop, Call, Par, Branches, no_branch, branch, Instances, no_instance, instance}
+use Rattle.ceu_tree.specs.Residual.{Body, Awaited, Spawned as InstanceBody, Act, Begin, Finish, Residual, Over, Run, WaitInput, WaitTime, WaitEvent, WaitForever, InAsync, Block, Open, Loop, Call, Par, Branches, no_branch, branch, Instances, no_instance, instance}
 use Rattle.ceu_tree.specs.Focus.{Frame, OfBlock, Focus, Here, In, plug, leaf, body_of}
 use Rattle.ceu_tree.specs.World.{Cell, Holds, NotSet, Names, Held, World, marked, set_alias, set_parameters, dead}
 use Rattle.ceu_tree.specs.Abort.{aborted}
@@ -150,7 +150,7 @@ module _ (K : Kernel) (n : ℕ) (root body : Body) (f : Focus Act) where
       go None = let q = (set_alias_quiet body alias NotSet w).given in let a = answered_given Past f (marked mark.Full (set_alias body alias NotSet w)) (λ a. refl) in omega (arith, q, a)
       go (Some place) = at place (w.given == 4294967295)
 
-  does_given : (d : Does) (w : World) → w.given ≤ given_of (does_in K n root body f d w)
+  pub does_given : (d : Does) (w : World) → w.given ≤ given_of (does_in K n root body f d w)
   unfolding live_focus
   does_given (does.Opens x) w = omega arith
   does_given (does.Waits r) w = omega arith

@@ -1,12 +1,10 @@
 -- What a leaf does by itself keeps each value in an open slot. Parameters of code that is awaited lie in the part that it opens.
-use Rattle.std.proofs.Common.{◌≡◌, refl, sym, ap, ◌∙◌, subst, ◌≤◌, ℕ, ◌+◌, ℤ, Bool, true, false, if◌then◌else◌, ◌==◌, List, [], ◌∷◌, Option, Some, None, Result, Ok, Err, arith, eq-eqb}
+use Rattle.std.proofs.Common.{◌≡◌, refl, ap, ◌≤◌, ℕ, ◌+◌, ℤ, Bool, true, false, if◌then◌else◌, List, [], ◌∷◌, Option, Some, None, Result, Ok, Err, arith, eq-eqb}
 use Rattle.ceu_base.specs.declared.kinds.Pos.{Pos}
 use Rattle.ceu_base.specs.declared.kinds.Fault.{Fault}
-use Rattle.ceu_base.specs.declared.kinds.Ty.{Ty}
 use Rattle.ceu_tree.specs.declared.kernel.Kernel.{Kernel}
 use Rattle.ceu_tree.specs.declared.kernel.KCode.{KCode}
 use Rattle.ceu_tree.specs.declared.kernel.KDecl.{KDecl}
-use Rattle.ceu_tree.specs.declared.kernel.KKind.TheVariants as kind
 use Rattle.ceu_tree.specs.declared.kernel.KLoop.{KLoop}
 use Rattle.ceu_tree.specs.declared.kernel.KLoop.TheVariants as turns
 use Rattle.ceu_tree.specs.declared.kernel.KNode.{KNode}
@@ -14,18 +12,17 @@ use Rattle.ceu_tree.specs.declared.kernel.KBlock.{KBlock}
 use Rattle.ceu_tree.specs.declared.kernel.KStmt.{out-KStmt}
 use Rattle.ceu_tree.specs.declared.kernel.KStmt.TheOpen.{KStmt-F}
 use Rattle.ceu_tree.specs.Residual.{Body, Awaited, Act, Begin, Start, Finish, AtEnd, AtHead, Again}
-use Rattle.ceu_tree.specs.Focus.{OfCall, Here, In}
 use Rattle.ceu_tree.specs.World.{World, Cell, Holds, NotSet, Names, Held, set, assign, assign_if, set_parameters, look}
 use Rattle.ceu_tree.specs.Expressions.{names_living, value_of, value_if, values_of}
-use Rattle.ceu_tree.specs.Leaf.{Layer, Does, Opens, Waits, Passes, Ends, Heads, Spawns, Kills, Fails, Done, done, or_fails, in_branches, chosen_part, loop_reached, called, spawning, killing, code_at, started, acted, target}
+use Rattle.ceu_tree.specs.Leaf.{Layer, Does, Opens, Waits, Passes, Spawns, Kills, Fails, Done, done, or_fails, in_branches, chosen_part, loop_reached, called, spawning, killing, code_at, started, acted, target}
 use Rattle.ceu_tree.specs.Legal.{called_code}
 use Rattle.ceu_tree.specs.Proper.{IsAlias, Scope, is_proper}
-use Rattle.ceu_legal.specs.Shape.{Part, AStatement, ActFits, begins, heads, goes_again, starts, finishes, ends}
+use Rattle.ceu_legal.specs.Shape.{Part, ActFits, begins, heads, goes_again, starts, finishes, ends}
 use Rattle.ceu_legal.proofs.Static.{names_of}
 use Rattle.ceu_legal.proofs.UpFits.{Sound}
 use Rattle.ceu_held.specs.Held.{is_of_kind}
-use Rattle.ceu_held.proofs.Slots.{at_room, decls_room, code_room, room, focus_room}
-use Rattle.ceu_held.proofs.Values.{held, Lie, lie_more, lie_put}
+use Rattle.ceu_held.proofs.Slots.{decls_room, code_room, room, focus_room}
+use Rattle.ceu_held.proofs.Values.{held, lie_more, lie_put}
 use Rattle.ceu_held.proofs.Covers.{slot_is, Own, Outer, Covers, at_one, alias_own, spawn_own}
 use Rattle.ceu_held.proofs.Writes.{all_variables, parameters_are, alias_set, writes, at_writes, target_written}
 use Rattle.ceu_held.proofs.Aborts.{LieIn, assign_lies, assign_if_lies}

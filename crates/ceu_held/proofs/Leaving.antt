@@ -1,5 +1,5 @@
 -- An abortion of what is inside a part, or the end of a block, leaves each value that lies around it, and no other.
-use Rattle.std.proofs.Common.{◌≡◌, refl, sym, ap, ◌∙◌, subst, ◌≤◌, ℕ, ◌+◌, Bool, true, false, Some, ◌⊎◌, inl, inr, List, [], ◌∷◌, ◌++◌, append-nil, arith}
+use Rattle.std.proofs.Common.{◌≡◌, sym, subst, ℕ, ◌+◌, Bool, true, false, Some, inl, List, [], ◌∷◌, ◌++◌, append-nil, arith}
 use Rattle.ceu_tree.specs.declared.kernel.Kernel.{Kernel}
 use Rattle.ceu_tree.specs.declared.kernel.KCode.{KCode}
 use Rattle.ceu_tree.specs.declared.kernel.ParKind.{ParKind}
@@ -7,19 +7,19 @@ use Rattle.ceu_tree.specs.declared.kernel.KNode.{KNode}
 use Rattle.ceu_tree.specs.declared.kernel.KBlock.{KBlock, out-KBlock}
 use Rattle.ceu_tree.specs.declared.kernel.KStmt.{out-KStmt}
 use Rattle.ceu_tree.specs.declared.kernel.KStmt.TheOpen.{KStmt-F}
-use Rattle.ceu_tree.specs.Residual.{Body, Program, Awaited, Spawned, Act, Seat, Residual, Over, Branches, no_branch, branch, Instances, no_instance, instance}
-use Rattle.ceu_tree.specs.Focus.{Frame, OfBlock, OfInstance, OfOpen, OfLoop, OfCall, OfPar, Focus, Here, In, join, join_instances, fill, plug, body_in}
-use Rattle.ceu_tree.specs.World.{Held, World, forget_body, dead}
+use Rattle.ceu_tree.specs.Residual.{Body, Program, Awaited, Spawned, Act, Seat, Residual, Over, Branches, branch, Instances, instance}
+use Rattle.ceu_tree.specs.Focus.{Frame, OfBlock, OfInstance, OfOpen, OfLoop, OfCall, OfPar, Focus, In, join, join_instances, fill, plug, body_in}
+use Rattle.ceu_tree.specs.World.{Held, World, dead}
 use Rattle.ceu_tree.specs.Abort.{aborted, branches_aborted, instances_aborted, closed}
-use Rattle.ceu_tree.specs.Leaf.{Layer, code_at}
-use Rattle.ceu_tree.specs.Legal.{finalizers_of, called_code}
+use Rattle.ceu_tree.specs.Leaf.{code_at}
+use Rattle.ceu_tree.specs.Legal.{called_code}
 use Rattle.ceu_tree.specs.Proper.{Scope, is_proper}
 use Rattle.ceu_legal.specs.Shape.{Part, ABlock, AStatement, block_scope, part_scope, turn_scope, code_scope, code_part, AllFit, EachFits, FrameFits, around_statement, around_end, around_instance, around_part, around_turn, around_call, around_branch, Around, nothing_around, one_around}
-use Rattle.ceu_legal.proofs.Static.{nodes_fine, each_fine, block_static, names_of, code_static}
-use Rattle.ceu_legal.proofs.UpFits.{Sound, layer_of, list_sound, part_sound, frame_sound}
+use Rattle.ceu_legal.proofs.Static.{nodes_fine, each_fine, names_of}
+use Rattle.ceu_legal.proofs.UpFits.{Sound, layer_of, list_sound, frame_sound}
 use Rattle.ceu_values.proofs.FocusSpares.{branches_joined}
 use Rattle.ceu_held.proofs.Slots.{decls_room, layer_room, code_room, room, each_room, all_room, frame_room, focus_room}
-use Rattle.ceu_held.proofs.Values.{Lie, lie_more, lie_forget_loop, lie_forget_body}
+use Rattle.ceu_held.proofs.Values.{lie_more, lie_forget_loop, lie_forget_body}
 use Rattle.ceu_held.proofs.Covers.{Own, Outer, Covers, own_more, covers_more, program_seen, outer_inside, code_own, block_own, frame_covers}
 use Rattle.ceu_held.proofs.Aborts.{instances_joined, lie_rest, LieIn, ends_lie, registered_fine, aborted_lie, each_lie, all_lie}
 

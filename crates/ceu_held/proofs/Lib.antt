@@ -12,5 +12,15 @@ pub mod Given
 pub mod Reactions
 pub mod Commands
 pub mod Rows
+pub mod Known
 pub mod Fitting
+pub mod Kept
+pub mod Seats
+pub mod SeatsUp
+pub mod Homed
+pub mod Agree
+pub mod NameSteps
+pub mod NamesFit
+pub mod NameRuns
+pub mod NameCommands
 pub mod Runs

@@ -1,31 +1,29 @@
 -- Each step of a reaction of a proper kernel keeps each value in an open slot of its kind.
-use Rattle.std.proofs.Common.{◌≡◌, refl, sym, ap, ◌∙◌, subst, ◌≤◌, ℕ, zero, suc, ◌+◌, true, inr, Option, Some, None, arith}
+use Rattle.std.proofs.Common.{◌≡◌, refl, ap, ◌≤◌, ℕ, zero, suc, ◌+◌, true, inr, Option, Some, None, arith}
 use Rattle.ceu_base.specs.declared.kinds.Pos.{Pos}
 use Rattle.ceu_base.specs.declared.kinds.Fault.{Fault}
-use Rattle.ceu_base.specs.declared.kinds.Mark.TheVariants as mark
 use Rattle.ceu_tree.specs.declared.kernel.Kernel.{Kernel}
 use Rattle.ceu_tree.specs.Residual.{Body, Program, Act, Residual, Over, Run, WaitInput, WaitTime, WaitEvent, WaitForever, InAsync, Block, Open, Loop, Call, Par}
 use Rattle.ceu_tree.specs.Focus.{Focus, plug, leaf, body_of, choose}
-use Rattle.ceu_tree.specs.World.{Held, World, marked}
+use Rattle.ceu_tree.specs.World.{Held, World}
 use Rattle.ceu_tree.specs.Wake.{runs_at}
-use Rattle.ceu_tree.specs.Leaf.{Does, acted}
-use Rattle.ceu_tree.specs.Around.{Outcome, Goes, Rests, Raises, Fails, Past, Registers, AtBlockEnd, AtLoopHead, Ends, Leaves, Moved}
+use Rattle.ceu_tree.specs.Leaf.{acted}
+use Rattle.ceu_tree.specs.Around.{Outcome, Goes, Rests, Raises, Fails, Past, Registers, AtBlockEnd, AtLoopHead, Ends, Leaves}
 use Rattle.ceu_tree.specs.Step.{stepped}
 use Rattle.ceu_tree.specs.Proper.{is_proper}
-use Rattle.ceu_tree.specs.Run.{Config, Turning, Between, Waiting, Ended, Faulted, config_of, unless_failed, level_closed, chosen_at, next, steps, booted}
+use Rattle.ceu_tree.specs.Run.{Config, Turning, Between, Waiting, Ended, Faulted, config_of, unless_failed, chosen_at, next, steps}
 use Rattle.ceu_laws.proofs.FocusBalance.{Found, FoundIn, choose_found}
-use Rattle.ceu_legal.specs.Shape.{Part, Around, TurnFits, ConfigFits, program_part}
+use Rattle.ceu_legal.specs.Shape.{Part, TurnFits, ConfigFits, program_part}
 use Rattle.ceu_legal.proofs.UpFits.{Sound}
 use Rattle.ceu_legal.proofs.StepFits.{around_sound}
 use Rattle.ceu_legal.proofs.RunFits.{root_sound, next_fits}
-use Rattle.ceu_living.proofs.Trees.{focus_stands}
-use Rattle.ceu_living.proofs.Rooms.{Room, acted_room}
+use Rattle.ceu_living.proofs.Rooms.{acted_room}
 use Rattle.ceu_living.proofs.Steps.{SpawnFine}
 use Rattle.ceu_living.proofs.Reactions.{ConfigCounts, room_fine, next_counts}
 use Rattle.ceu_held.proofs.Slots.{room, focus_room, plug_room}
-use Rattle.ceu_held.proofs.Values.{Lie, lie_more}
+use Rattle.ceu_held.proofs.Values.{lie_more}
 use Rattle.ceu_held.proofs.Covers.{Covers}
-use Rattle.ceu_held.proofs.Aborts.{lie_rest, LieIn}
+use Rattle.ceu_held.proofs.Aborts.{LieIn}
 use Rattle.ceu_held.proofs.Steps.{left_whole, stepped_lie}
 use Rattle.ceu_held.proofs.Given.{room_more, stepped_given}
 

@@ -1,12 +1,10 @@
 -- The kind of each slot of a kernel, by its number: slots are numbered through the whole kernel, so that a number tells the declaration.
-use Rattle.std.proofs.Common.{◌≡◌, refl, sym, ap, ◌∙◌, subst, ◌≤◌, ◌<◌, ℕ, zero, suc, ◌+◌, Bool, true, false, if◌then◌else◌, ◌==◌, ◌&&◌, ◌⊎◌, inl, inr, List, [], ◌∷◌, ◌++◌, length, Option, Some, None, arith, eqb-true, eq-eqb}
-use Rattle.std.proofs.lemmas.Bool.{and_parts, eqb-false, false≢true}
+use Rattle.std.proofs.Common.{◌≡◌, refl, sym, ap, ◌∙◌, subst, ◌≤◌, ℕ, zero, suc, ◌+◌, Bool, true, false, if◌then◌else◌, ◌==◌, ◌⊎◌, inl, inr, List, [], ◌∷◌, ◌++◌, length, Option, Some, None, arith, eqb-true, eq-eqb}
+use Rattle.std.proofs.lemmas.Bool.{and_parts}
 use Rattle.ceu_base.specs.declared.kinds.Ty.TheVariants as ty
 use Rattle.ceu_tree.specs.declared.kernel.Kernel.{Kernel}
 use Rattle.ceu_tree.specs.declared.kernel.KCode.{KCode}
 use Rattle.ceu_tree.specs.declared.kernel.KDecl.{KDecl}
-use Rattle.ceu_tree.specs.declared.kernel.KKind.{KKind}
-use Rattle.ceu_tree.specs.declared.kernel.KKind.TheVariants as kind
 use Rattle.ceu_tree.specs.declared.kernel.KLoop.{KLoop}
 use Rattle.ceu_tree.specs.declared.kernel.KLoop.TheVariants as turns
 use Rattle.ceu_tree.specs.declared.kernel.KNode.{KNode}
@@ -17,62 +15,69 @@ use Rattle.ceu_tree.specs.Numbering.{counts_from, decl_slots, loop_slots, par_sl
 use Rattle.ceu_tree.specs.declared.kernel.KStmt.TheOpen.{KStmt-F}
 use Rattle.ceu_tree.specs.Leaf.{Layer, code_at}
 use Rattle.ceu_tree.specs.Mentions.{outer_names_from}
-use Rattle.ceu_tree.specs.Proper.{body_scope, block_ok, codes_ok, events_ok, ports_ok, is_proper}
+use Rattle.ceu_tree.specs.Proper.{SlotKind, IsLoopVariable, pool_slots, pools_seen, slot_kind, declared_seen, body_scope, block_ok, codes_ok, events_ok, ports_ok, is_proper}
 use denote.Hole.Carrier
 
--- a slot, with its kind where it has a declaration or is a loop's variable
+-- a slot, as it is seen where it has a declaration or is a loop's variable: an alias with the pools of its block and of those around
 pub record Row : Type 0 where
   pub slot : ℕ
-  pub kind : Option KKind
+  pub kind : Option SlotKind
 
 abbrev pub hidden : List ℕ → List Row
 hidden [] = []
 hidden (x ∷ xs) = record { slot = x; kind = None } ∷ hidden xs
 
-abbrev pub decl_rows : List KDecl → List Row
-decl_rows [] = []
-decl_rows (d ∷ ds) = record { slot = d.slot; kind = Some d.kind } ∷ decl_rows ds
+abbrev pub decl_rows : (pools : List ℕ) → List KDecl → List Row
+decl_rows pools [] = []
+decl_rows pools (d ∷ ds) = record { slot = d.slot; kind = Some (slot_kind pools d.kind) } ∷ decl_rows pools ds
 
 abbrev pub loop_rows : KLoop → List Row
 loop_rows turns.Free = []
 loop_rows (turns.Times slot n) = hidden (slot ∷ [])
-loop_rows (turns.Range i next end open_a a b open_b) = record { slot = i; kind = Some (kind.Var ty.S32) } ∷ hidden (next ∷ end ∷ [])
+loop_rows (turns.Range i next end open_a a b open_b) = record { slot = i; kind = Some IsLoopVariable } ∷ hidden (next ∷ end ∷ [])
+
+abbrev pub inner_pools : List ℕ → List KDecl → List ℕ
+inner_pools pools ds = pool_slots ds ++ pools
 
 unfoldable mutual
-  pub stmt_rows : KStmt → List Row
-  stmt_rows (AwaitCode c es frame t) = hidden (frame ∷ [])
-  stmt_rows (Async b) = block_rows b
-  stmt_rows (Finalize b) = block_rows b
-  stmt_rows (Do t b) = block_rows b
-  stmt_rows (If' _ arms last) = arms_rows arms ++ block_rows last
-  stmt_rows (Loop k b) = loop_rows k ++ block_rows b
-  stmt_rows (Par' k slot _ bs) = hidden (par_slots k slot (row_length bs)) ++ blocks_rows bs
-  stmt_rows _ = []
+  pub stmt_rows : List ℕ → KStmt → List Row
+  stmt_rows ps (AwaitCode c es frame t) = hidden (frame ∷ [])
+  stmt_rows ps (Async b) = block_rows ps b
+  stmt_rows ps (Finalize b) = block_rows ps b
+  stmt_rows ps (Do t b) = block_rows ps b
+  stmt_rows ps (If' _ arms last) = arms_rows ps arms ++ block_rows ps last
+  stmt_rows ps (Loop k b) = loop_rows k ++ block_rows ps b
+  stmt_rows ps (Par' k slot _ bs) = hidden (par_slots k slot (row_length bs)) ++ blocks_rows ps bs
+  stmt_rows ps _ = []
 
-  pub block_rows : KBlock → List Row
-  block_rows (KBlock' n ds _ list) = decl_rows ds ++ list_rows list
+  pub block_rows : List ℕ → KBlock → List Row
+  block_rows ps (KBlock' n ds _ list) = decl_rows (inner_pools ps ds) ds ++ list_rows (inner_pools ps ds) list
 
-  pub arm_rows : KArm → List Row
-  arm_rows (KArm' c b) = block_rows b
+  pub arm_rows : List ℕ → KArm → List Row
+  arm_rows ps (KArm' c b) = block_rows ps b
 
-  pub list_rows : {n : _} → Row_of-KNode n → List Row
-  list_rows end_of-KNode = []
-  list_rows (more_of-KNode n p s rest) = stmt_rows s ++ list_rows rest
+  pub list_rows : {n : _} → List ℕ → Row_of-KNode n → List Row
+  list_rows ps end_of-KNode = []
+  list_rows ps (more_of-KNode n p s rest) = stmt_rows ps s ++ list_rows ps rest
 
-  pub arms_rows : {n : _} → Row_of-KArm n → List Row
-  arms_rows end_of-KArm = []
-  arms_rows (more_of-KArm a rest) = arm_rows a ++ arms_rows rest
+  pub arms_rows : {n : _} → List ℕ → Row_of-KArm n → List Row
+  arms_rows ps end_of-KArm = []
+  arms_rows ps (more_of-KArm a rest) = arm_rows ps a ++ arms_rows ps rest
 
-  pub blocks_rows : {n : _} → Row_of-KBlock n → List Row
-  blocks_rows end_of-KBlock = []
-  blocks_rows (more_of-KBlock b rest) = block_rows b ++ blocks_rows rest
+  pub blocks_rows : {n : _} → List ℕ → Row_of-KBlock n → List Row
+  blocks_rows ps end_of-KBlock = []
+  blocks_rows ps (more_of-KBlock b rest) = block_rows ps b ++ blocks_rows ps rest
+
+-- the pools that are seen in the body of code
+abbrev pub code_pools : KCode → List ℕ
+code_pools c = pools_seen (declared_seen (inner_pools [] c.params) c.params [])
 
 abbrev pub codes_rows : List KCode → List Row
 codes_rows [] = []
-codes_rows (c ∷ cs) = decl_rows c.params ++ block_rows c.body ++ codes_rows cs
+codes_rows (c ∷ cs) = decl_rows (inner_pools [] c.params) c.params ++ block_rows (code_pools c) c.body ++ codes_rows cs
 
 abbrev pub rows : Kernel → List Row
-rows K = block_rows K.body ++ codes_rows K.codes
+rows K = block_rows [] K.body ++ codes_rows K.codes
 
 -- ---- their slots are those of the kernel
 
@@ -91,9 +96,9 @@ hidden_same : (xs : List ℕ) → slots_of (hidden xs) ≡ xs
 hidden_same [] = refl
 hidden_same (x ∷ xs) = ap (λ l. x ∷ l) (hidden_same xs)
 
-decls_same : (ds : List KDecl) → slots_of (decl_rows ds) ≡ decl_slots ds
-decls_same [] = refl
-decls_same (d ∷ ds) = ap (λ l. d.slot ∷ l) (decls_same ds)
+decls_same : (ps : List ℕ) (ds : List KDecl) → slots_of (decl_rows ps ds) ≡ decl_slots ds
+decls_same ps [] = refl
+decls_same ps (d ∷ ds) = ap (λ l. d.slot ∷ l) (decls_same ps ds)
 
 loop_same : (k : KLoop) → slots_of (loop_rows k) ≡ loop_slots k
 loop_same turns.Free = refl
@@ -103,42 +108,45 @@ loop_same (turns.Range i next end open_a a b open_b) = refl
 mutual
   unfolding stmt_rows stmt_slots
 
-  stmt_same : (st : KStmt) → slots_of (stmt_rows st) ≡ stmt_slots st
-  stmt_same (AwaitCode c es frame t) = refl
-  stmt_same (Async b) = block_same b
-  stmt_same (Finalize b) = block_same b
-  stmt_same (Do t b) = block_same b
-  stmt_same (If' x arms last) = slots_both (arms_rows arms) (block_rows last) (arms_slots arms) (block_slots last) (arms_same arms) (block_same last)
-  stmt_same (Loop k b) = slots_both (loop_rows k) (block_rows b) (loop_slots k) (block_slots b) (loop_same k) (block_same b)
-  stmt_same (Par' k slot x bs) = slots_both (hidden (par_slots k slot (row_length bs))) (blocks_rows bs) (par_slots k slot (row_length bs)) (blocks_slots bs) (hidden_same (par_slots k slot (row_length bs))) (blocks_same bs)
-  stmt_same st = refl
+  stmt_same : (ps : List ℕ) (st : KStmt) → slots_of (stmt_rows ps st) ≡ stmt_slots st
+  stmt_same ps (AwaitCode c es frame t) = refl
+  stmt_same ps (Async b) = block_same ps b
+  stmt_same ps (Finalize b) = block_same ps b
+  stmt_same ps (Do t b) = block_same ps b
+  stmt_same ps (If' x arms last) = slots_both (arms_rows ps arms) (block_rows ps last) (arms_slots arms) (block_slots last) (arms_same ps arms) (block_same ps last)
+  stmt_same ps (Loop k b) = slots_both (loop_rows k) (block_rows ps b) (loop_slots k) (block_slots b) (loop_same k) (block_same ps b)
+  stmt_same ps (Par' k slot x bs) =
+      slots_both (hidden (par_slots k slot (row_length bs))) (blocks_rows ps bs) (par_slots k slot (row_length bs)) (blocks_slots bs) (hidden_same (par_slots k slot (row_length bs))) (blocks_same ps bs)
+  stmt_same ps st = refl
 
-  block_same : (b : KBlock) → slots_of (block_rows b) ≡ block_slots b
-  block_same (KBlock' n ds x list) = slots_both (decl_rows ds) (list_rows list) (decl_slots ds) (list_slots list) (decls_same ds) (list_same list)
+  block_same : (ps : List ℕ) (b : KBlock) → slots_of (block_rows ps b) ≡ block_slots b
+  block_same ps (KBlock' n ds x list) =
+      slots_both (decl_rows (inner_pools ps ds) ds) (list_rows (inner_pools ps ds) list) (decl_slots ds) (list_slots list) (decls_same (inner_pools ps ds) ds) (list_same (inner_pools ps ds) list)
 
-  arm_same : (a : KArm) → slots_of (arm_rows a) ≡ arm_slots a
-  arm_same (KArm' c b) = block_same b
+  arm_same : (ps : List ℕ) (a : KArm) → slots_of (arm_rows ps a) ≡ arm_slots a
+  arm_same ps (KArm' c b) = block_same ps b
 
-  list_same : {n : _} (list : Row_of-KNode n) → slots_of (list_rows list) ≡ list_slots list
-  list_same end_of-KNode = refl
-  list_same (more_of-KNode n p s rest) = slots_both (stmt_rows s) (list_rows rest) (stmt_slots s) (list_slots rest) (stmt_same s) (list_same rest)
+  list_same : {n : _} (ps : List ℕ) (list : Row_of-KNode n) → slots_of (list_rows ps list) ≡ list_slots list
+  list_same ps end_of-KNode = refl
+  list_same ps (more_of-KNode n p s rest) = slots_both (stmt_rows ps s) (list_rows ps rest) (stmt_slots s) (list_slots rest) (stmt_same ps s) (list_same ps rest)
 
-  arms_same : {n : _} (arms : Row_of-KArm n) → slots_of (arms_rows arms) ≡ arms_slots arms
-  arms_same end_of-KArm = refl
-  arms_same (more_of-KArm a rest) = slots_both (arm_rows a) (arms_rows rest) (arm_slots a) (arms_slots rest) (arm_same a) (arms_same rest)
+  arms_same : {n : _} (ps : List ℕ) (arms : Row_of-KArm n) → slots_of (arms_rows ps arms) ≡ arms_slots arms
+  arms_same ps end_of-KArm = refl
+  arms_same ps (more_of-KArm a rest) = slots_both (arm_rows ps a) (arms_rows ps rest) (arm_slots a) (arms_slots rest) (arm_same ps a) (arms_same ps rest)
 
-  blocks_same : {n : _} (bs : Row_of-KBlock n) → slots_of (blocks_rows bs) ≡ blocks_slots bs
-  blocks_same end_of-KBlock = refl
-  blocks_same (more_of-KBlock b rest) = slots_both (block_rows b) (blocks_rows rest) (block_slots b) (blocks_slots rest) (block_same b) (blocks_same rest)
+  blocks_same : {n : _} (ps : List ℕ) (bs : Row_of-KBlock n) → slots_of (blocks_rows ps bs) ≡ blocks_slots bs
+  blocks_same ps end_of-KBlock = refl
+  blocks_same ps (more_of-KBlock b rest) = slots_both (block_rows ps b) (blocks_rows ps rest) (block_slots b) (blocks_slots rest) (block_same ps b) (blocks_same ps rest)
 
 codes_same : (cs : List KCode) → slots_of (codes_rows cs) ≡ codes_slots cs
 codes_same [] = refl
 codes_same (c ∷ cs) =
-    slots_both (decl_rows c.params ++ block_rows c.body) (codes_rows cs) (decl_slots c.params ++ block_slots c.body) (codes_slots cs)
-    (slots_both (decl_rows c.params) (block_rows c.body) (decl_slots c.params) (block_slots c.body) (decls_same c.params) (block_same c.body)) (codes_same cs)
+    let ps = inner_pools [] c.params in
+    slots_both (decl_rows ps c.params ++ block_rows (code_pools c) c.body) (codes_rows cs) (decl_slots c.params ++ block_slots c.body) (codes_slots cs)
+    (slots_both (decl_rows ps c.params) (block_rows (code_pools c) c.body) (decl_slots c.params) (block_slots c.body) (decls_same ps c.params) (block_same (code_pools c) c.body)) (codes_same cs)
 
 pub rows_slots : (K : Kernel) → slots_of (rows K) ≡ block_slots K.body ++ codes_slots K.codes
-rows_slots K = slots_both (block_rows K.body) (codes_rows K.codes) (block_slots K.body) (codes_slots K.codes) (block_same K.body) (codes_same K.codes)
+rows_slots K = slots_both (block_rows [] K.body) (codes_rows K.codes) (block_slots K.body) (codes_slots K.codes) (block_same [] K.body) (codes_same K.codes)
 
 -- ---- the row of a slot
 
@@ -156,7 +164,7 @@ among_right x [] ys h = h
 among_right x (y ∷ xs) ys h = inr (among_right x xs ys h)
 
 -- the kind that a slot has
-abbrev pub kind_at : ℕ → List Row → Option KKind
+abbrev pub kind_at : ℕ → List Row → Option SlotKind
 kind_at slot [] = None
 kind_at slot (x ∷ xs) = if x.slot == slot then x.kind else kind_at slot xs
 
@@ -188,64 +196,66 @@ incl_left xs ys zs h x m = h x (among_left x xs ys m)
 pub incl_right : (xs ys zs : List Row) → Incl (xs ++ ys) zs → Incl ys zs
 incl_right xs ys zs h x m = h x (among_right x xs ys m)
 
-abbrev pub list_all_rows : List KNode → List Row
-list_all_rows [] = []
-list_all_rows (s ∷ ss) = stmt_rows s.stmt ++ list_all_rows ss
+abbrev pub list_all_rows : List ℕ → List KNode → List Row
+list_all_rows ps [] = []
+list_all_rows ps (s ∷ ss) = stmt_rows ps s.stmt ++ list_all_rows ps ss
 
-abbrev pub blocks_all_rows : List KBlock → List Row
-blocks_all_rows [] = []
-blocks_all_rows (b ∷ bs) = block_rows b ++ blocks_all_rows bs
+abbrev pub blocks_all_rows : List ℕ → List KBlock → List Row
+blocks_all_rows ps [] = []
+blocks_all_rows ps (b ∷ bs) = block_rows ps b ++ blocks_all_rows ps bs
 
-abbrev pub arms_all_rows : List KArm → List Row
-arms_all_rows [] = []
-arms_all_rows (a ∷ arms) = block_rows (out-KArm a).body ++ arms_all_rows arms
+abbrev pub arms_all_rows : List ℕ → List KArm → List Row
+arms_all_rows ps [] = []
+arms_all_rows ps (a ∷ arms) = block_rows ps (out-KArm a).body ++ arms_all_rows ps arms
 
-abbrev pub parts_rows : Layer → List Row
-parts_rows (KStmt-F.Async b) = block_rows b
-parts_rows (KStmt-F.Do t b) = block_rows b
-parts_rows (KStmt-F.If arms last) = arms_all_rows arms ++ block_rows last
-parts_rows (KStmt-F.Loop k b) = loop_rows k ++ block_rows b
-parts_rows (KStmt-F.Par k slot bs) = blocks_all_rows bs
-parts_rows layer = []
+abbrev pub parts_rows : List ℕ → Layer → List Row
+parts_rows ps (KStmt-F.Async b) = block_rows ps b
+parts_rows ps (KStmt-F.Do t b) = block_rows ps b
+parts_rows ps (KStmt-F.If arms last) = arms_all_rows ps arms ++ block_rows ps last
+parts_rows ps (KStmt-F.Loop k b) = loop_rows k ++ block_rows ps b
+parts_rows ps (KStmt-F.Par k slot bs) = blocks_all_rows ps bs
+parts_rows ps layer = []
 
-list_is : {n : _} (list : Row_of-KNode n) → list_rows list ≡ list_all_rows (items-the_row-KNode n list)
+list_is : {n : _} (ps : List ℕ) (list : Row_of-KNode n) → list_rows ps list ≡ list_all_rows ps (items-the_row-KNode n list)
 unfolding stmt_rows
-list_is end_of-KNode = refl
-list_is (more_of-KNode n p s rest) = ap (λ l. stmt_rows s ++ l) (list_is rest)
+list_is ps end_of-KNode = refl
+list_is ps (more_of-KNode n p s rest) = ap (λ l. stmt_rows ps s ++ l) (list_is ps rest)
 
-blocks_is : {n : _} (bs : Row_of-KBlock n) → blocks_rows bs ≡ blocks_all_rows (items-the_row-KBlock n bs)
+blocks_is : {n : _} (ps : List ℕ) (bs : Row_of-KBlock n) → blocks_rows ps bs ≡ blocks_all_rows ps (items-the_row-KBlock n bs)
 unfolding stmt_rows
-blocks_is end_of-KBlock = refl
-blocks_is (more_of-KBlock b rest) = ap (λ l. block_rows b ++ l) (blocks_is rest)
+blocks_is ps end_of-KBlock = refl
+blocks_is ps (more_of-KBlock b rest) = ap (λ l. block_rows ps b ++ l) (blocks_is ps rest)
 
-arm_is : (a : KArm) → arm_rows a ≡ block_rows (out-KArm a).body
+arm_is : (ps : List ℕ) (a : KArm) → arm_rows ps a ≡ block_rows ps (out-KArm a).body
 unfolding stmt_rows out-KArm Carrier.out
-arm_is (KArm' c b) = refl
+arm_is ps (KArm' c b) = refl
 
-arms_is : {n : _} (arms : Row_of-KArm n) → arms_rows arms ≡ arms_all_rows (items-the_row-KArm n arms)
+arms_is : {n : _} (ps : List ℕ) (arms : Row_of-KArm n) → arms_rows ps arms ≡ arms_all_rows ps (items-the_row-KArm n arms)
 unfolding stmt_rows
-arms_is end_of-KArm = refl
-arms_is (more_of-KArm a rest) = ap (λ l. l ++ arms_rows rest) (arm_is a) ∙ ap (λ l. block_rows (out-KArm a).body ++ l) (arms_is rest)
+arms_is ps end_of-KArm = refl
+arms_is ps (more_of-KArm a rest) = ap (λ l. l ++ arms_rows ps rest) (arm_is ps a) ∙ ap (λ l. block_rows ps (out-KArm a).body ++ l) (arms_is ps rest)
 
-pub block_rows_is : (b : KBlock) → block_rows b ≡ decl_rows (out-KBlock b).decls ++ list_all_rows (out-KBlock b).list
+pub block_rows_is : (ps : List ℕ) (b : KBlock) → block_rows ps b ≡ decl_rows (inner_pools ps (out-KBlock b).decls) (out-KBlock b).decls ++ list_all_rows (inner_pools ps (out-KBlock b).decls) (out-KBlock b).list
 unfolding stmt_rows out-KBlock Carrier.out
-block_rows_is (KBlock' n ds x list) = ap (λ l. decl_rows ds ++ l) (list_is list ∙ ap list_all_rows (sym (items_shown-the_row-KNode-2 x list)))
+block_rows_is ps (KBlock' n ds x list) = ap (λ l. decl_rows (inner_pools ps ds) ds ++ l) (list_is (inner_pools ps ds) list ∙ ap (list_all_rows (inner_pools ps ds)) (sym (items_shown-the_row-KNode-2 x list)))
 
-pub parts_in : (st : KStmt) → Incl (parts_rows (out-KStmt st)) (stmt_rows st)
+pub parts_in : (ps : List ℕ) (st : KStmt) → Incl (parts_rows ps (out-KStmt st)) (stmt_rows ps st)
 unfolding stmt_rows out-KStmt Carrier.out
-parts_in (Async b) r m = m
-parts_in (Do t b) r m = m
-parts_in (If' x arms last) r m = subst (λ l. Among r (l ++ block_rows last)) (ap arms_all_rows (items_shown-the_row-KArm-0 x arms) ∙ sym (arms_is arms)) m
-parts_in (Loop k b) r m = m
-parts_in (Par' k slot x bs) r m = among_right r (hidden (par_slots k slot (row_length bs))) (blocks_rows bs) (subst (Among r) (ap blocks_all_rows (items_shown-the_row-KBlock-1 x bs) ∙ sym (blocks_is bs)) m)
-parts_in st r m = absurd m
+parts_in ps (Async b) r m = m
+parts_in ps (Do t b) r m = m
+parts_in ps (If' x arms last) r m = subst (λ l. Among r (l ++ block_rows ps last)) (ap (arms_all_rows ps) (items_shown-the_row-KArm-0 x arms) ∙ sym (arms_is ps arms)) m
+parts_in ps (Loop k b) r m = m
+parts_in ps (Par' k slot x bs) r m =
+    among_right r (hidden (par_slots k slot (row_length bs))) (blocks_rows ps bs) (subst (Among r) (ap (blocks_all_rows ps) (items_shown-the_row-KBlock-1 x bs) ∙ sym (blocks_is ps bs)) m)
+parts_in ps st r m = absurd m
 
-pub code_rows_in : (c : ℕ) (cs : List KCode) (k : KCode) → code_at c cs ≡ Some k → Incl (decl_rows k.params ++ block_rows k.body) (codes_rows cs)
+pub code_rows_in : (c : ℕ) (cs : List KCode) (k : KCode) → code_at c cs ≡ Some k → Incl (decl_rows (inner_pools [] k.params) k.params ++ block_rows (code_pools k) k.body) (codes_rows cs)
 code_rows_in c [] k e = absurd (cc)
 code_rows_in zero (x ∷ cs) k e =
     let same : x ≡ k = ap (λ o. elim o [ None ↦ x | Some y ↦ y ]) e in
-    subst (λ y. Incl (decl_rows y.params ++ block_rows y.body) (codes_rows (x ∷ cs))) same (λ r m. among_left r (decl_rows x.params ++ block_rows x.body) (codes_rows cs) m)
-code_rows_in (suc c) (x ∷ cs) k e = λ r m. among_right r (decl_rows x.params ++ block_rows x.body) (codes_rows cs) (code_rows_in c cs k e r m)
+    subst (λ y. Incl (decl_rows (inner_pools [] y.params) y.params ++ block_rows (code_pools y) y.body) (codes_rows (x ∷ cs))) same
+    (λ r m. among_left r (decl_rows (inner_pools [] x.params) x.params ++ block_rows (code_pools x) x.body) (codes_rows cs) m)
+code_rows_in (suc c) (x ∷ cs) k e = λ r m. among_right r (decl_rows (inner_pools [] x.params) x.params ++ block_rows (code_pools x) x.body) (codes_rows cs) (code_rows_in c cs k e r m)
 
 -- ---- of a proper kernel
 

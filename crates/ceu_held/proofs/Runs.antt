@@ -1,5 +1,5 @@
 -- The laws on the values that are held.
-use Rattle.std.proofs.Common.{◌≡◌, refl, sym, ap, ◌∙◌, subst, ◌≤◌, ℕ, ◌+◌, Bool, true, false, ◌==◌, ◌&&◌, ◌||◌, ◌⊎◌, inl, inr, nat_lt, List, [], ◌∷◌, ◌++◌, append_assoc, Option, Some, None, arith}
+use Rattle.std.proofs.Common.{◌≡◌, refl, sym, ap, ◌∙◌, subst, ℕ, Bool, true, false, ◌==◌, ◌&&◌, ◌||◌, ◌⊎◌, inl, inr, List, [], ◌∷◌, ◌++◌, append_assoc, Option, Some, None, arith}
 use Rattle.std.proofs.lemmas.Bool.{and_parts, and_from, or_cases, lt-ltb}
 use Rattle.std.specs.List.{list_all, list_any}
 use Rattle.ceu_tree.specs.declared.command.Command.{Command}
@@ -18,21 +18,25 @@ use Rattle.ceu_tree.specs.Residual.{Body, Program, Awaited, Spawned, same_body, 
 use Rattle.ceu_tree.specs.Focus.{Focus, plug}
 use Rattle.ceu_tree.specs.World.{Held, World}
 use Rattle.ceu_tree.specs.Leaf.{Layer, code_at}
-use Rattle.ceu_tree.specs.Legal.{called_code, OpenSlot, decls_open, turns_open, loop_open, code_open, open_slots, branches_open, instances_open, is_open_slot}
+use Rattle.ceu_tree.specs.Legal.{seats, called_code, OpenSlot, decls_open, turns_open, loop_open, code_open, open_slots, branches_open, instances_open, is_open_slot}
 use Rattle.ceu_tree.specs.Proper.{is_proper}
-use Rattle.ceu_tree.specs.Run.{Config, Turning, Between, Waiting, Ended, Faulted, booted, next, steps, done, run}
+use Rattle.ceu_tree.specs.Run.{Config, Turning, Between, Waiting, Ended, Faulted, next, steps, done, run}
 use Rattle.ceu_legal.specs.Shape.{ConfigFits}
 use Rattle.ceu_living.specs.Instances.{InstancesStand}
 use Rattle.ceu_living.proofs.Reactions.{instances_counted}
 use Rattle.ceu_held.specs.Held.{is_of_kind, lies_at, lies_declared, lies_counted, lies_turning, lies_given, lies_in, lies_in_branches, lies_in_instances, all_lie, ValuesLie}
 use Rattle.ceu_legal.proofs.RunFits.{run_fits}
-use Rattle.ceu_held.specs.Laws.{SlotKinds, RunSlotKinds, RunSlotsLegal}
+use Rattle.ceu_held.specs.Laws.{RunNamesLegal, SlotKinds, RunSlotKinds, RunSlotsLegal}
 use Rattle.ceu_held.proofs.Slots.{room, focus_room, plug_room, lies_room}
 use Rattle.ceu_held.proofs.Values as values
 use Rattle.ceu_held.proofs.Values.{Lie, lie_more, lie_all}
-use Rattle.ceu_held.proofs.Reactions.{TreeLies, FocusLies, ConfigLies, next_lies, steps_lie}
+use Rattle.ceu_held.proofs.Reactions.{TreeLies, ConfigLies, next_lies, steps_lie}
 use Rattle.ceu_held.proofs.Commands.{done_lies, run_lies}
-use Rattle.ceu_held.proofs.Fitting.{each_lies, tree_fits, program_known}
+use Rattle.ceu_held.proofs.Known.{program_known}
+use Rattle.ceu_held.proofs.Fitting.{EachKind, each_lies, tree_fits}
+use Rattle.ceu_held.proofs.NameRuns.{ConfigNames}
+use Rattle.ceu_held.proofs.NameCommands.{run_names}
+use Rattle.ceu_held.proofs.NamesFit.{tree_names}
 
 -- ---- what is counted, and what is said
 
@@ -77,8 +81,11 @@ module _ (K : Kernel) where
 
 -- ---- the kinds of open slots
 
+each_kind : (K : Kernel) (proper : is_proper K ≡ true) (r : Residual) (w : World) → ConfigFits K (Waiting r w) → ValuesLie K (Waiting r w) → EachKind K proper w.given w.values
+each_kind K p r w t v = each_lies K p w.given t (program_known K p) Program w.values (tree_counted K r w v)
+
 pub kinds_are : SlotKinds
-kinds_are K r w p t v = tree_fits K p w (each_lies K w.given t (program_known K) Program w.values (tree_counted K r w v)) t (program_known K) Program
+kinds_are K r w p t v = tree_fits K p w (each_kind K p r w t v) t (program_known K p) Program
 
 pub run_kinds : RunSlotKinds
 run_kinds K n xs r w p e = kinds_are K r w p (subst (ConfigFits K) e (run_fits K p n xs)) (subst (ValuesLie K) e (run_held K p n xs))
@@ -172,3 +179,8 @@ all_open K r g (h ∷ hs) e = let a = and_parts _ _ e in and_from _ _ (open_in K
 
 pub slots_legal : RunSlotsLegal
 slots_legal K n xs r w p e = all_open K r w.given w.values (subst (ValuesLie K) e (run_held K p n xs))
+
+pub names_legal : RunNamesLegal
+names_legal K n xs r w p e =
+    let t : ConfigFits K (Waiting r w) = subst (ConfigFits K) e (run_fits K p n xs) in
+    tree_names K p w (seats r Program) (each_kind K p r w t (subst (ValuesLie K) e (run_held K p n xs))) (subst (ConfigNames K) e (run_names K p n xs)) t (program_known K p) Program [] refl

@@ -1,5 +1,5 @@
 -- One step of a trail keeps each value in an open slot.
-use Rattle.std.proofs.Common.{◌≡◌, refl, sym, ap, ◌∙◌, subst, ◌≤◌, ℕ, ◌+◌, ℤ, pos, nat_lt, Bool, true, false, if◌then◌else◌, ◌==◌, ◌⊎◌, inl, inr, List, ◌∷◌, Option, Some, None, arith, eqb-true}
+use Rattle.std.proofs.Common.{◌≡◌, refl, ap, ◌∙◌, subst, ◌≤◌, ℕ, ◌+◌, ℤ, pos, nat_lt, Bool, true, false, if◌then◌else◌, ◌==◌, inl, inr, List, ◌∷◌, Option, Some, None, arith, eqb-true}
 use Rattle.std.proofs.lemmas.Bool.{and_from, le-leb}
 use Rattle.ceu_base.specs.declared.kinds.Fault.TheVariants.{SpawnCount}
 use Rattle.ceu_base.specs.declared.kinds.Mark.TheVariants as mark
@@ -17,17 +17,17 @@ use Rattle.ceu_tree.specs.Leaf.{Does, acted, code_at}
 use Rattle.ceu_tree.specs.Around.{Outcome, Goes, Rests, Raises, Fails, Past, Registers, AtBlockEnd, AtLoopHead, Ends, Leaves, Moved, moved, up, taken, answered}
 use Rattle.ceu_tree.specs.Step.{event_code, free_place, with_instance, seated_if, seat_frame, seated, spawned_at, spawned, unseated, unseat_frame, unseat, killed_in, kill_frame, killed, does_in, stepped}
 use Rattle.ceu_tree.specs.Proper.{IsAlias, Scope, is_proper}
-use Rattle.ceu_legal.specs.Shape.{Part, ABlock, code_scope, Fits, AllFit, none_lives, one_lives, FrameFits, around_statement, around_end, around_instance, around_part, around_turn, around_call, around_branch, Around, nothing_around, one_around, TurnFits}
+use Rattle.ceu_legal.specs.Shape.{Part, code_scope, AllFit, none_lives, one_lives, FrameFits, around_statement, around_end, around_instance, around_part, around_turn, around_call, around_branch, Around, nothing_around, one_around, TurnFits}
 use Rattle.ceu_legal.proofs.Static.{code_static}
-use Rattle.ceu_legal.proofs.UpFits.{Sound, frame_sound}
+use Rattle.ceu_legal.proofs.UpFits.{Sound}
 use Rattle.ceu_legal.proofs.StepFits.{around_sound, unseated_around}
-use Rattle.ceu_living.proofs.Living.{Quiet, quiet_then}
+use Rattle.ceu_living.proofs.Living.{quiet_then}
 use Rattle.ceu_living.proofs.Leaf.{set_alias_quiet, set_parameters_quiet}
 use Rattle.ceu_living.proofs.Spawns.{frame_without, frame_has, none_has, one_has}
 use Rattle.ceu_living.proofs.Steps.{SpawnFine}
 use Rattle.ceu_held.proofs.Slots.{decls_room, code_room, room, all_room, frame_room, focus_room, Calm, plug_room, graft_room, woken_room}
-use Rattle.ceu_held.proofs.Values.{held, Lie, lie_more, lie_put, lie_forget_body}
-use Rattle.ceu_held.proofs.Covers.{slot_is, Own, Outer, Covers, own_more, program_seen, outer_inside, code_own, frame_covers, around_covers}
+use Rattle.ceu_held.proofs.Values.{held, lie_more, lie_put, lie_forget_body}
+use Rattle.ceu_held.proofs.Covers.{slot_is, Outer, Covers, own_more, program_seen, outer_inside, code_own, frame_covers, around_covers}
 use Rattle.ceu_held.proofs.Writes.{parameters_are}
 use Rattle.ceu_held.proofs.Aborts.{lie_rest, LieIn, aborted_lie}
 use Rattle.ceu_held.proofs.Up.{left}

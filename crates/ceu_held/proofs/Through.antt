@@ -1,30 +1,29 @@
 -- What each of the parts around a leaf does keeps each value in an open slot, and so do all of them.
-use Rattle.std.proofs.Common.{◌≡◌, refl, sym, ap, ◌∙◌, subst, ◌≤◌, ℕ, ◌+◌, ℤ, pos, Bool, true, false, if◌then◌else◌, ◌==◌, ◌⊎◌, inl, inr, List, [], ◌∷◌, ◌++◌, append-nil, Option, Some, None, arith}
-use Rattle.ceu_base.specs.declared.kinds.Mark.TheVariants as mark
+use Rattle.std.proofs.Common.{◌≡◌, refl, sym, ℕ, ◌+◌, ℤ, pos, true, false, ◌==◌, List, [], ◌∷◌, ◌++◌, append-nil, arith}
 use Rattle.ceu_tree.specs.declared.kernel.Kernel.{Kernel}
 use Rattle.ceu_tree.specs.declared.kernel.KNode.{KNode}
 use Rattle.ceu_tree.specs.declared.kernel.KBlock.{KBlock, out-KBlock}
 use Rattle.ceu_tree.specs.declared.kernel.KStmt.{out-KStmt}
 use Rattle.ceu_tree.specs.declared.kernel.KStmt.TheOpen.{KStmt-F}
-use Rattle.ceu_tree.specs.Residual.{Body, Awaited, Spawned, Act, Again, Counter, Seat, Residual, Over, Block, Par, Branches, branch, Instances}
+use Rattle.ceu_tree.specs.Residual.{Body, Awaited, Spawned, Act, Again, Counter, Seat, Residual, Over, Par, Branches, branch, Instances}
 use Rattle.ceu_tree.specs.Focus.{Frame, OfBlock, OfInstance, OfOpen, OfLoop, OfCall, OfPar, Focus, Here, In, join, join_instances, fill, plug, body_in}
-use Rattle.ceu_tree.specs.World.{Held, World, marked, assign_if, dead}
+use Rattle.ceu_tree.specs.World.{Held, World, assign_if}
 use Rattle.ceu_tree.specs.Abort.{closed, returned, aborted}
 use Rattle.ceu_tree.specs.Leaf.{Exit, code_at, target}
 use Rattle.ceu_tree.specs.Legal.{called_code}
-use Rattle.ceu_tree.specs.Around.{Outcome, Goes, Rests, Raises, Fails, Past, Registers, AtBlockEnd, AtLoopHead, Ends, Leaves, Moved, moved, goes_on, kind_of, rejoined, through, up, taken, answered}
+use Rattle.ceu_tree.specs.Around.{Outcome, Goes, Rests, Raises, Fails, Past, Registers, AtBlockEnd, AtLoopHead, Ends, Leaves, moved, kind_of, through, up}
 use Rattle.ceu_tree.specs.Proper.{Scope, is_proper}
-use Rattle.ceu_legal.specs.Shape.{Part, ABlock, AStatement, AnEnd, block_scope, part_scope, turn_scope, code_part, FrameFits, around_statement, around_end, around_instance, around_part, around_turn, around_call, around_branch, Around, nothing_around, one_around}
+use Rattle.ceu_legal.specs.Shape.{Part, ABlock, AStatement, AnEnd, block_scope, part_scope, turn_scope, FrameFits, around_statement, around_end, around_part, around_turn, around_call, around_branch, Around, nothing_around, one_around}
 use Rattle.ceu_legal.proofs.Static.{names_of}
 use Rattle.ceu_legal.proofs.UpFits.{Sound, layer_of, frame_sound}
-use Rattle.ceu_held.proofs.Slots.{decls_room, layer_room, code_room, room, each_room, all_room, frame_room, focus_room, join_room, join_all_room, fill_room, plug_room}
-use Rattle.ceu_held.proofs.Values.{Lie, lie_more, lie_forget_body}
-use Rattle.ceu_held.proofs.Covers.{Own, Outer, Covers, covers_more, frame_covers}
+use Rattle.ceu_held.proofs.Slots.{decls_room, layer_room, code_room, room, each_room, all_room, frame_room, focus_room, join_room, join_all_room, fill_room}
+use Rattle.ceu_held.proofs.Values.{lie_more, lie_forget_body}
+use Rattle.ceu_held.proofs.Covers.{Covers, covers_more, frame_covers}
 use Rattle.ceu_held.proofs.Writes.{target_takes, at_writes, target_written}
 use Rattle.ceu_held.proofs.Aborts.{lie_rest, LieIn, assign_if_lies, registered_fine}
 use Rattle.ceu_held.proofs.Leaving as leaving
 use Rattle.ceu_held.proofs.Leaving.{branches_lie, focus_leaves}
-use Rattle.ceu_held.proofs.Up.{left, Left, ended, stays, block_closed, body_left_lie, open_left_lie, loop_on, loop_left_lie, next_turn_lie, rejoined_lie}
+use Rattle.ceu_held.proofs.Up.{left, Left, ended, block_closed, body_left_lie, open_left_lie, loop_on, loop_left_lie, next_turn_lie, rejoined_lie}
 
 module _ (K : Kernel) (proper : is_proper K ≡ true) (g : ℕ) where
   target_fine : (sc : Scope) (s : KNode) → Sound K proper (AStatement sc s) → target_takes K (names_of K) sc (target s)

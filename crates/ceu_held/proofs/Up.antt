@@ -1,8 +1,6 @@
 -- What the parts around a leaf do keeps each value in an open slot.
-use Rattle.std.proofs.Common.{◌≡◌, refl, sym, ap, ◌∙◌, subst, ◌≤◌, ℕ, ◌+◌, ℤ, pos, ◌+ℤ◌, int_lt, Bool, true, false, if◌then◌else◌, ◌==◌, ◌&&◌, ◌⊎◌, inl, inr, List, [], ◌∷◌, ◌++◌, append-nil, Option, Some, None, arith, eq-eqb}
+use Rattle.std.proofs.Common.{◌≡◌, refl, ap, subst, ◌≤◌, ℕ, ◌+◌, pos, ◌+ℤ◌, int_lt, Bool, true, false, if◌then◌else◌, ◌==◌, List, arith, eq-eqb}
 use Rattle.std.proofs.lemmas.Bool.{and_parts, false≢true}
-use Rattle.ceu_base.specs.declared.kinds.Fault.TheVariants.{LoopLimit}
-use Rattle.ceu_base.specs.declared.kinds.Mark.TheVariants as mark
 use Rattle.ceu_base.specs.declared.kinds.Ty.TheVariants as ty
 use Rattle.ceu_tree.specs.declared.kernel.Kernel.{Kernel}
 use Rattle.ceu_tree.specs.declared.kernel.KKind.TheVariants as kind
@@ -14,22 +12,20 @@ use Rattle.ceu_tree.specs.declared.kernel.KNode.{KNode}
 use Rattle.ceu_tree.specs.declared.kernel.KBlock.{KBlock, out-KBlock}
 use Rattle.ceu_tree.specs.declared.kernel.KStmt.{out-KStmt}
 use Rattle.ceu_tree.specs.declared.kernel.KStmt.TheOpen.{KStmt-F}
-use Rattle.ceu_tree.specs.Residual.{Body, Awaited, Spawned, Act, Begin, Again, Counter, Free, Turns, Upward, Residual, Over, Block, Loop, Par, Branches, no_branch, branch, Instances}
-use Rattle.ceu_tree.specs.Focus.{Frame, OfBlock, OfInstance, OfOpen, OfLoop, OfCall, OfPar, Focus, Here, In, join, join_instances, fill, plug, body_in}
-use Rattle.ceu_tree.specs.World.{Holds, Held, World, marked, set, assign_if, dead}
-use Rattle.ceu_tree.specs.Abort.{aborted, closed, forget_loop, returned}
-use Rattle.ceu_tree.specs.Leaf.{Layer, Exit, Escape, Break, Continue, code_at, target, target_of}
-use Rattle.ceu_tree.specs.Legal.{called_code}
-use Rattle.ceu_tree.specs.Around.{Outcome, Goes, Rests, Raises, Fails, Past, Registers, AtBlockEnd, AtLoopHead, Ends, Leaves, Moved, moved, value_with, goes_on, body_left, open_left, again, begins_turn, turn_of, next_turn, loop_exit, loop_left, is_over, all_over, kind_of, rejoined, through, up, taken, answered}
+use Rattle.ceu_tree.specs.Residual.{Body, Act, Begin, Again, Counter, Turns, Upward, Residual, Over, Par, Branches, no_branch, branch, Instances}
+use Rattle.ceu_tree.specs.Focus.{OfBlock, OfOpen, OfLoop, Focus, Here, In, plug}
+use Rattle.ceu_tree.specs.World.{Holds, Held, World, set, assign_if}
+use Rattle.ceu_tree.specs.Abort.{aborted, closed, forget_loop}
+use Rattle.ceu_tree.specs.Leaf.{Layer, Exit, Escape, Break, Continue, target}
+use Rattle.ceu_tree.specs.Around.{Outcome, Goes, Rests, Raises, Fails, Past, Ends, Leaves, Moved, moved, value_with, body_left, open_left, turn_of, next_turn, loop_exit, loop_left, is_over, all_over, rejoined}
 use Rattle.ceu_tree.specs.Proper.{Scope, is_proper}
-use Rattle.ceu_legal.specs.Shape.{Part, ABlock, AStatement, block_scope, part_scope, turn_scope, code_part, AllFit, EachFits, FrameFits, around_statement, around_end, around_instance, around_part, around_turn, around_call, around_branch, Around, nothing_around, one_around}
-use Rattle.ceu_legal.proofs.Static.{nodes_fine, each_fine, names_of}
-use Rattle.ceu_legal.proofs.UpFits.{Sound, layer_of, frame_sound}
-use Rattle.ceu_held.proofs.Slots.{decls_room, turns_room, layer_room, code_room, room, each_room, all_room, frame_room, focus_room, join_room, join_all_room, fill_room, plug_room}
-use Rattle.ceu_held.proofs.Values.{held, Lie, lie_more, lie_put, lie_forget_loop, lie_forget_body}
-use Rattle.ceu_held.proofs.Covers.{Own, Outer, Covers, own_more, covers_more, at_one, frame_covers}
-use Rattle.ceu_held.proofs.Writes.{target_takes, at_writes, target_written}
-use Rattle.ceu_held.proofs.Aborts.{lie_rest, LieIn, assign_if_lies, registered_fine}
+use Rattle.ceu_legal.specs.Shape.{Part, ABlock, AStatement, block_scope, AllFit}
+use Rattle.ceu_legal.proofs.Static.{nodes_fine, names_of}
+use Rattle.ceu_held.proofs.Slots.{decls_room, layer_room, room, each_room, all_room, frame_room, focus_room}
+use Rattle.ceu_held.proofs.Values.{held, lie_more, lie_put, lie_forget_loop}
+use Rattle.ceu_held.proofs.Covers.{Covers, at_one}
+use Rattle.ceu_held.proofs.Writes.{target_takes}
+use Rattle.ceu_held.proofs.Aborts.{LieIn, assign_if_lies}
 use Rattle.ceu_held.proofs.Leaving as leaving
 use Rattle.ceu_held.proofs.Leaving.{closed_lie, branches_lie, focus_leaves}
 

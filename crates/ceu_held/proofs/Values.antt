@@ -1,6 +1,6 @@
 -- Lists of values that lie somewhere: what a set adds to them, and what is left where a slot, the declarations of a block or a body are forgotten.
-use Rattle.std.proofs.Common.{◌≡◌, refl, sym, ap, ◌∙◌, subst, ◌≤◌, ℕ, ◌+◌, Bool, true, false, not, cond, if◌then◌else◌, ◌==◌, ◌&&◌, nat_lt, List, [], ◌∷◌, Option, Some, None, arith, eqb-true, eq-eqb}
-use Rattle.std.proofs.lemmas.Bool.{and_parts, and_from, false≢true, ltb-true, lt-ltb}
+use Rattle.std.proofs.Common.{◌≡◌, refl, sym, ap, ◌∙◌, subst, ◌≤◌, ℕ, ◌+◌, Bool, true, false, not, cond, if◌then◌else◌, ◌==◌, ◌&&◌, nat_lt, List, [], ◌∷◌, Option, Some, None, arith, eqb-true}
+use Rattle.std.proofs.lemmas.Bool.{and_parts, and_from, false≢true, ltb-true}
 use Rattle.std.specs.List.{filter, list_all}
 use Rattle.ceu_tree.specs.declared.kernel.KCode.{KCode}
 use Rattle.ceu_tree.specs.declared.kernel.KDecl.{KDecl}
@@ -12,11 +12,11 @@ use Rattle.ceu_base.specs.declared.kinds.Ty.TheVariants as ty
 use Rattle.ceu_tree.specs.declared.kernel.KStmt.{KStmt, out-KStmt}
 use Rattle.ceu_tree.specs.declared.kernel.KStmt.TheOpen.{KStmt-F}
 use Rattle.ceu_tree.specs.Residual.{Body, same_body}
-use Rattle.ceu_tree.specs.World.{Cell, Held, World, is_at, put, set, forget, forget_declared, forget_body}
+use Rattle.ceu_tree.specs.World.{Cell, Held, World, is_at, put, forget, forget_declared, forget_body}
 use Rattle.ceu_tree.specs.Leaf.{Layer}
 use Rattle.ceu_tree.specs.Abort.{forget_turns, forget_loop}
-use Rattle.ceu_values.proofs.Stores.{same_is, same_self, forget_layer, forget_loop_is}
-use Rattle.ceu_held.specs.Held.{is_of_kind, lies_at}
+use Rattle.ceu_values.proofs.Stores.{same_is, forget_layer, forget_loop_is}
+use Rattle.ceu_held.specs.Held.{is_of_kind}
 use Rattle.ceu_held.proofs.Slots.{once, at_room, decls_room, turns_room, layer_room, code_room}
 
 abbrev pub held : Body → ℕ → Cell → Held

@@ -1,5 +1,5 @@
 -- Where a statement puts values: into variables and aliases that are seen from its place.
-use Rattle.std.proofs.Common.{◌≡◌, refl, sym, ap, ◌∙◌, subst, ℕ, Bool, true, false, not, if◌then◌else◌, ◌==◌, ◌&&◌, nat_le, nat_lt, ◌+◌, ◌^◌, ◌++◌, zero, suc, List, [], ◌∷◌, length, Option, Some, None}
+use Rattle.std.proofs.Common.{◌≡◌, refl, ap, subst, ℕ, Bool, true, false, not, if◌then◌else◌, ◌&&◌, nat_le, nat_lt, ◌+◌, ◌^◌, ◌++◌, zero, suc, List, [], ◌∷◌, length, Option, Some, None}
 use Rattle.std.proofs.lemmas.Bool.{and_parts, false≢true}
 use Rattle.std.specs.List.{list_all}
 use Rattle.ceu_base.specs.declared.kinds.Ty.{Ty}
@@ -12,16 +12,15 @@ use Rattle.ceu_tree.specs.declared.kernel.KKind.TheVariants as kind
 use Rattle.ceu_tree.specs.declared.kernel.Loc.{Loc}
 use Rattle.ceu_tree.specs.declared.kernel.KNode.{KNode}
 use Rattle.ceu_tree.specs.declared.kernel.KBlock.{KBlock, KBlock', out-KBlock}
-use Rattle.ceu_tree.specs.declared.kernel.KStmt.{KStmt, out-KStmt, Assign, AwaitIn, AwaitTime, AwaitEvent, AwaitCode, Spawn, Kill, Unset, Finalize, Do}
+use Rattle.ceu_tree.specs.declared.kernel.KStmt.{KStmt, out-KStmt, Assign, AwaitIn, AwaitTime, AwaitEvent, AwaitCode, Spawn, Unset, Finalize, Do}
 use Rattle.ceu_tree.specs.declared.kernel.KStmt.TheOpen.{KStmt-F}
 use Rattle.ceu_tree.specs.Leaf.{Layer, code_at, target_of}
 use Rattle.ceu_tree.specs.Abort.{finalizer_list}
 use Rattle.ceu_tree.specs.Legal.{finalizers_of, is_finalizer}
 use Rattle.ceu_tree.specs.Mentions.{outer_names_from, all_set}
-use Rattle.ceu_tree.specs.Proper.{Scope, find, declared_seen, is_trail, outside_finalizers, is_alias, alias_takes, is_pool_of, reads, takes, takes_if, gives, gives_all, time_ok, on_ty, on_code, port_ty, event_seen, event_at, decl_ok, in_finalizer, with_decls, with_aim, do_aim, stmt_ok, block_ok, nodes_ok, body_scope, is_parameter, codes_ok, is_proper}
+use Rattle.ceu_tree.specs.Proper.{Scope, find, is_trail, outside_finalizers, is_alias, alias_takes, is_pool_of, reads, takes, takes_if, gives, gives_all, time_ok, on_ty, on_code, port_ty, event_seen, event_at, decl_ok, in_finalizer, with_decls, with_aim, do_aim, stmt_ok, block_ok, nodes_ok, body_scope, is_parameter, codes_ok, is_proper}
 use Rattle.ceu_tree.specs.Typing.{same_ty}
-use Rattle.ceu_legal.specs.Shape.{block_scope, code_scope, pauses}
-use Rattle.ceu_legal.proofs.Static.{nodes_fine, block_static, names_of}
+use Rattle.ceu_legal.proofs.Static.{nodes_fine, block_static}
 use denote.Hole.Carrier
 
 first_holds : (x y : Bool) → (x && y) ≡ true → x ≡ true

@@ -1,17 +1,18 @@
 -- The laws on the values that the configurations of a proper kernel hold.
-use Rattle.std.specs.Prelude.{◌≡◌, ℕ, true, List}
+use Rattle.std.specs.Prelude.{◌≡◌, ℕ, true, List, []}
 use Rattle.std.specs.List.{list_all}
 use Rattle.ceu_tree.specs.declared.command.Command.{Command}
 use Rattle.ceu_tree.specs.declared.kernel.Kernel.{Kernel}
 use Rattle.ceu_tree.specs.Residual.{Program, Residual}
 use Rattle.ceu_tree.specs.World.{World}
 use Rattle.ceu_tree.specs.Proper.{Proper}
-use Rattle.ceu_tree.specs.Legal.{open_slots, is_open_slot}
+use Rattle.ceu_tree.specs.Legal.{seats, open_slots, is_open_slot}
 use Rattle.ceu_tree.specs.Run.{Config, Waiting, booted, next, steps, done, run}
 use Rattle.ceu_legal.specs.Shape.{ConfigFits}
 use Rattle.ceu_living.specs.Instances.{InstancesStand}
 use Rattle.ceu_held.specs.Held.{ValuesLie}
 use Rattle.ceu_held.specs.Kinds.{kinds_fit}
+use Rattle.ceu_held.specs.Names.{names_agree}
 
 abbrev pub BootHeld : Type 0
 BootHeld = (K : Kernel) → ValuesLie K (booted K)
@@ -41,3 +42,7 @@ RunSlotKinds = (K : Kernel) (n : ℕ) (xs : List Command) (r : Residual) (w : Wo
 -- where a run of a proper kernel waits, each value is of an open slot
 abbrev pub RunSlotsLegal : Type 0
 RunSlotsLegal = (K : Kernel) (n : ℕ) (xs : List Command) (r : Residual) (w : World) → Proper K → run K n xs ≡ Waiting r w → list_all (is_open_slot (open_slots K.codes r Program)) w.values ≡ true
+
+-- and each alias that names an instance names one of its code, in a pool that it may have, and of its body
+abbrev pub RunNamesLegal : Type 0
+RunNamesLegal = (K : Kernel) (n : ℕ) (xs : List Command) (r : Residual) (w : World) → Proper K → run K n xs ≡ Waiting r w → names_agree K w (seats r Program) r Program [] ≡ true

@@ -1,9 +1,10 @@
 //! Laws of the reference semantics on the values that open bodies hold, each the contract of a function with an empty body.
 //!
-//! In each configuration of a run of a proper kernel every value lies in a slot that is open, and is of that slot's kind.
+//! In each configuration of a run of a proper kernel every value lies in a slot that is open, and is of that slot's kind; an
+//! alias that names an instance that lives names one that it may name.
 #![tactic(auto)]
 
-ghost use Rattle.ceu_held.specs.Laws.{BootHeld, CommandHeld, ReactionHeld, RunHeld, RunSlotKinds, RunSlotsLegal, SlotKinds, StepHeld};
+ghost use Rattle.ceu_held.specs.Laws.{BootHeld, CommandHeld, ReactionHeld, RunHeld, RunNamesLegal, RunSlotKinds, RunSlotsLegal, SlotKinds, StepHeld};
 
 /// At the start no value is held.
 pub fn boot_held()
@@ -43,4 +44,9 @@ pub fn run_slot_kinds()
 /// Where such a run waits, each value is of an open slot, as a legal configuration has it.
 pub fn run_slots_legal()
     ensures { RunSlotsLegal }
+{}
+
+/// And each alias that names an instance names one of its code, in a pool that the alias may have, and of the body that it is in.
+pub fn run_names_legal()
+    ensures { RunNamesLegal }
 {}

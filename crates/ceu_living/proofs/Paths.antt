@@ -243,7 +243,7 @@ module _ (K : Kernel) (x : ℕ) where
     none_path nothing_around h st g on p = tt
     none_path (one_around a more) h st g on p = let i = frame_inside a h st.0 g on in (i.without p, none_path more (frame_sound K proper a h) st.1 i.ground i.on (i.gone p))
 
-    frame_found : {t : ℕ} {fr : Frame} {d e : Part} (c : ℕ) → FrameFits K t fr d e → part_find e ≡ Some (IsPool c) → frame_has x c fr ⊎ (frame_without x fr × (part_find d ≡ Some (IsPool c)))
+    pub frame_found : {t : ℕ} {fr : Frame} {d e : Part} (c : ℕ) → FrameFits K t fr d e → part_find e ≡ Some (IsPool c) → frame_has x c fr ⊎ (frame_without x fr × (part_find d ≡ Some (IsPool c)))
     frame_found c (around_statement {sc = sc} {b = b} done e f all) p = find_declared x c (pool_slots (out-KBlock b).decls ++ pools_seen sc.seen) (out-KBlock b).decls sc.seen p
     frame_found c (around_end f all) p = absurd (cc)
     frame_found c (around_instance {seat = seat} done k e f r y z o q) p = absurd (parameters_apart K x c seat.code (pool_slots k.params ++ []) k proper q p)

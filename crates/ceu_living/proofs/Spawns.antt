@@ -33,7 +33,7 @@ unfoldable pub one_has : (pool code : ℕ) → Focus Act → Type 0
 one_has pool code (Here a) = ⊥
 one_has pool code (In fr f) = (frame_has pool code fr × none_has pool f) ⊎ (frame_without pool fr × one_has pool code f)
 
-frame_apart : (pool code : ℕ) (fr : Frame) → frame_without pool fr → frame_has pool code fr → ⊥
+pub frame_apart : (pool code : ℕ) (fr : Frame) → frame_without pool fr → frame_has pool code fr → ⊥
 frame_apart pool code (OfBlock b fin all rest) h k = let e = k.sized in absurd (cc)
 frame_apart pool code fr h k = k
 
