@@ -31,13 +31,12 @@ impl Compiled {
     ghost use Rattle.std.specs.Prelude.{◌≡◌, IfOk, IfErr};
     ghost use Rattle.ceu_isa.specs.Safety.{IsSound};
     ghost use Rattle.ceu_tree.specs.declared.kernel.Kernel.{Kernel};
-    ghost use Rattle.ceu_trail.specs.Laws.{StepsAreDone};
     ghost use Rattle.ceu_compiled.specs.Standing.{IsCompiled, IsFresh};
 
     /// Takes the memory for an image, with each byte zero. Where the image is a kernel's, it stands for a program of that kernel that wasn't booted.
     pub fn new(alloc: Global, image: Image) -> Result<Compiled, NewError>
         requires { IsSound image }
-        ensures fresh { IfOk result (λ s. (K : Kernel) → StepsAreDone → IsCompiled image K → IsFresh s.session K) }
+        ensures fresh { IfOk result (λ s. (K : Kernel) → IsCompiled image K → IsFresh s.session K) }
         ensures err { IfErr result (λ e. e ≡ NewError.Memory image) }
     {
         match Session::new(alloc, image) {
