@@ -1,8 +1,8 @@
 -- What a reactor has done, command by command.
-use Rattle.std.proofs.Common.{◌≡◌, ◌⊎◌, inl, inr, ℕ, suc, ◌+◌, ◌-◌, ◌<◌, List, [], ◌∷◌, ◌++◌, Option, Result, Ok, Err, IfOk, OnOk, refl, sym, ap, ◌∙◌, subst, arith, append_assoc, replicate}
+use Rattle.std.proofs.Common.{◌≡◌, inl, inr, ℕ, ◌+◌, ◌-◌, ◌<◌, List, [], ◌∷◌, ◌++◌, Option, Result, Ok, Err, IfOk, OnOk, refl, sym, ap, ◌∙◌, subst, arith, append_assoc}
 use Rattle.std.proofs.lemmas.List.{append-nil}
 use Rattle.ceu_io.specs.declared.outside.Failed.{Failed}
-use Rattle.ceu_script.specs.Lines.{Line, skipped, content, bad, Comes, Spoils, Ends}
+use Rattle.ceu_script.specs.Lines.{Line, content, bad, Comes, Spoils, Ends}
 use Rattle.ceu_script.specs.declared.items.BadKind.{BadKind}
 use Rattle.ceu_tree.specs.declared.command.Command.{Command}
 use Rattle.ceu_tree.specs.declared.command.Command.TheVariants.{Idle}
@@ -17,7 +17,7 @@ use Rattle.ceu_driver.specs.declared.follow.Stop.{Stop}
 use Rattle.ceu_driver.specs.declared.follow.Stop.TheVariants as stop
 use Rattle.ceu_driver.specs.declared.reactor.After.{After}
 use Rattle.ceu_driver.specs.declared.reactor.After.TheVariants as after
-use Rattle.ceu_driver.proofs.Scripting.{commands-append, skips_command_nothing, only_skips}
+use Rattle.ceu_driver.proofs.Scripting.{skips_command_nothing, only_skips}
 
 ended_waits : (s : Status) (v : _) → s ≡ HasEnded v → s ≡ Waits → ⊥
 ended_waits s v is waits = absurd (cc)

@@ -1,7 +1,7 @@
 -- What a reactor has done over the lines of a script, where the source's bytes are told.
 use Rattle.std.proofs.Common.{◌≡◌, ℕ, List, [], ◌∷◌, ◌++◌, Option}
 use Rattle.ceu_io.specs.Told.{WhereTold}
-use Rattle.ceu_io.proofs.Telling.{where_told_same, where_told_then}
+use Rattle.ceu_io.proofs.Telling.{where_told_then}
 use Rattle.ceu_script.specs.Lines.{Line, Comes, Spoils, Ends}
 use Rattle.ceu_script.specs.declared.items.BadKind.{BadKind}
 use Rattle.ceu_tree.specs.declared.command.Command.{Command}

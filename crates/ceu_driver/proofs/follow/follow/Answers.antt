@@ -4,9 +4,7 @@ use Rattle.ceu_script.specs.Lines.{script, Gives, GoesOnBehind}
 use Rattle.ceu_script.specs.Places.{IsAt, Places}
 use Rattle.ceu_script.specs.Reader.{ahead}
 use Rattle.ceu_script.specs.declared.items.Item.{Item}
-use Rattle.ceu_tree.specs.declared.command.Command.{Command}
-use Rattle.ceu_tree.specs.Run.{Config, done}
-use Rattle.ceu_driver.specs.Doing.{HasDone}
+use Rattle.ceu_tree.specs.Run.{done}
 use Rattle.ceu_driver.specs.Printing.{Printed, command_text}
 use Rattle.ceu_driver.specs.declared.reactor.After.{After}
 use Rattle.ceu_driver.specs.Runs.{script_of}
