@@ -3,3 +3,4 @@ pub mod Statuses
 pub mod Clauses
 pub mod Lining
 pub mod Limits
+pub mod Compiling

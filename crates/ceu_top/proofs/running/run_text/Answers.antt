@@ -3,9 +3,6 @@ use Rattle.ceu_top.proofs.Answering.{broken_text, memory_wanted, refused_with, t
 use Rattle.ceu_top.specs.declared.words.Mode.TheVariants.{Run}
 use Rattle.ceu_top.proofs.running.run_text.Goals as goal
 
-pub returns-in-Ok : goal.returns-in-Ok
-returns-in-Ok g c = c.run_program.ensures c.args.text.now c.in-Ok.ensures.program
-
 pub returns-in-Refused : goal.returns-in-Refused
 returns-in-Refused g c = text_printed (refused_with Run c.args.text.now c.in-Refused.rule c.in-Refused.pos c.refuse.result _ _ _ _
     (inl (broken_text c.args.text.now c.in-Err.e c.in-Refused.rule c.in-Refused.pos c.in-Err.ensures.refused c.in-Refused.is)) c.refuse.ensures)
