@@ -1,6 +1,5 @@
 -- A session that has run, beside the run of its image by the machine's definition.
 use Rattle.std.specs.Prelude.{◌≡◌, List, Option, Some, None}
-use Rattle.ceu_code.specs.declared.image.Image.{Image}
 use Rattle.ceu_isa.specs.Commands.{bytes_of, run}
 use Rattle.ceu_isa.specs.Reactions as machine
 use Rattle.ceu_react.specs.Sessions.{Seen}
