@@ -54,12 +54,12 @@ use Rattle.ceu_top.specs.declared.words.Mode.TheVariants as asked
 use Rattle.ceu_top.specs.declared.words.Mode.TheVariants.{Run, Check, Tidy, Show}
 
 -- what was told before a call
-told_old : {A : Type 0} (x y : Option A) (P : A → Type 0) → WhereTold x y (λ old new. P old) → IfSome x P
+pub told_old : {A : Type 0} (x y : Option A) (P : A → Type 0) → WhereTold x y (λ old new. P old) → IfSome x P
 told_old None y P told = tt
 told_old (Some a) None P told = absurd told
 told_old (Some a) (Some b) P told = told
 
-if_some_map : {A : Type 0} (x : Option A) (P Q : A → Type 0) → ((a : A) → P a → Q a) → IfSome x P → IfSome x Q
+pub if_some_map : {A : Type 0} (x : Option A) (P Q : A → Type 0) → ((a : A) → P a → Q a) → IfSome x P → IfSome x Q
 if_some_map None P Q f h = tt
 if_some_map (Some a) P Q f h = f a h
 

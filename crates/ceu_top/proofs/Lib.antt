@@ -4,3 +4,4 @@ pub mod Clauses
 pub mod Lining
 pub mod Limits
 pub mod Compiling
+pub mod Leaving

@@ -1,6 +1,8 @@
 // The call over objects in memory.
 use crate::{Status, ceu};
+use ceu_compile::compile;
 use ceu_io::{MemShelf, MemSink, MemSource, Source};
+use ceu_react::{Session, State};
 use std::alloc::Global;
 use std::test::Fail;
 
@@ -37,6 +39,19 @@ fn call(
     script: &[u8],
     outside: &Outside,
 ) -> Result<(Status, Vec<u8>), Fail> {
+    let mut left = None;
+    call_left(alloc, words, text, script, outside, &mut left)
+}
+
+// The same, and the machine that it leaves.
+fn call_left(
+    alloc: Global,
+    words: &[&str],
+    text: &[u8],
+    script: &[u8],
+    outside: &Outside,
+    left: &mut Option<Session>,
+) -> Result<(Status, Vec<u8>), Fail> {
     let mut names = Vec::new(alloc);
     for word in words {
         names.push(String::from_str(alloc, word)?)?;
@@ -55,7 +70,14 @@ fn call(
         outside.pieces[1].max(1),
         Vec::from_slice(alloc, &[outside.fails[2]])?,
     )?;
-    let status = ceu(alloc, names.as_slice(), &mut shelf, &mut input, &mut out);
+    let status = ceu(
+        alloc,
+        names.as_slice(),
+        &mut shelf,
+        &mut input,
+        &mut out,
+        left,
+    );
     Ok((status, Vec::from_slice(alloc, out.bytes())?))
 }
 
@@ -213,6 +235,45 @@ fn images_of_one_trail_run(rt: HostRuntime) -> Result<(), Fail> {
         assert_eq!(rt; answer, *status);
         assert_eq!(rt; written.as_slice(), *printed);
     }
+    Ok(())
+}
+
+// After a run that waits the machine is there; after a text that is refused none is.
+#[test]
+fn a_run_leaves_its_machine(rt: HostRuntime) -> Result<(), Fail> {
+    let mut left = None;
+    let (status, _) = call_left(
+        rt.alloc(),
+        &["ceu", "run", "p.ceu"],
+        TWICE,
+        b"A 7\n",
+        &AMPLE,
+        &mut left,
+    )?;
+    assert_eq!(rt; status, Status::Done);
+    let session = left.ok_or("a run leaves its machine")?;
+    assert_eq!(rt; session.state(), State::Waiting);
+    let made = compile(rt.alloc(), TWICE)
+        .ok()
+        .ok_or("a text has an image")?;
+    let image = session.image();
+    assert_eq!(rt; image.code.items(), made.code.items());
+    assert_eq!(rt; image.turns, made.turns);
+    assert_eq!(rt; image.gates, made.gates);
+    assert_eq!(rt; image.slots, made.slots);
+    assert_eq!(rt; image.depth, made.depth);
+    assert_eq!(rt; session.memory().len(), 47);
+    let mut none = Some(session);
+    let (status, _) = call_left(
+        rt.alloc(),
+        &["ceu", "run", "p.ceu"],
+        b"escape y;",
+        b"",
+        &AMPLE,
+        &mut none,
+    )?;
+    assert_eq!(rt; status, Status::Refused);
+    assert_eq!(rt; none.is_none(), true);
     Ok(())
 }
 
@@ -485,12 +546,14 @@ fn a_script_is_left_behind_a_failed_write(rt: HostRuntime) -> Result<(), Fail> {
     shelf.put("p.ceu", TWICE)?;
     let mut input = MemSource::new(script, 1, Vec::from_slice(rt.alloc(), &[5000])?);
     let mut out = MemSink::new(rt.alloc(), 4096, 4096, Vec::from_slice(rt.alloc(), &[2])?)?;
+    let mut left = None;
     let status = ceu(
         rt.alloc(),
         words.as_slice(),
         &mut shelf,
         &mut input,
         &mut out,
+        &mut left,
     );
     assert_eq!(rt; status, Status::Write);
     assert_eq!(rt; out.bytes(), b"memory 47 turns 1 levels 0\n".as_slice());

@@ -2,6 +2,7 @@ use Rattle.std.proofs.Common.{refl, ap}
 use Rattle.ceu_forms.proofs.Same.{runs_single}
 use Rattle.ceu_top.proofs.Answering.{run_is, text_printed, memory_wanted, text_unmet}
 use Rattle.ceu_top.proofs.Compiling.{compiled}
+use Rattle.ceu_top.proofs.Leaving.{run_left}
 use Rattle.ceu_top.proofs.running.run_built.Goals as goal
 
 pub image_of_program-requires-clause-small : goal.image_of_program-requires-clause-small
@@ -16,9 +17,13 @@ run-requires-clause-few g c = (runs_single c.args.program.now.kernel c.requires.
 pub run-requires-clause-short : goal.run-requires-clause-short
 run-requires-clause-short g c = (runs_single c.args.program.now.kernel c.requires.built).short
 
-pub returns-in-Ok : goal.returns-in-Ok
-returns-in-Ok g c = run_is c.in-Ok-run.played c.played_status.result c.args.text.now c.args.program.now.kernel c.args.program.now.memory c.args.program.now.bounds _ _ _ _ _ _ _ _
+pub returns-in-Ok-clause-answer : goal.returns-in-Ok-clause-answer
+returns-in-Ok-clause-answer g c = run_is c.in-Ok-run.played c.played_status.result c.args.text.now c.args.program.now.kernel c.args.program.now.memory c.args.program.now.bounds _ _ _ _ _ _ _ _
     c.requires.program c.requires.built c.requires.sized c.requires.bounded c.in-Ok-run.ensures.told c.in-Ok-run.ensures.cause c.played_status.ensures
 
-pub returns-in-Err : goal.returns-in-Err
-returns-in-Err g c = text_unmet (ap g.I.Source.left c.in-Err.ensures.input) (ap g.O.Sink.held c.in-Err.ensures.out) (ap g.I.Source.faults c.in-Err.ensures.input) (ap g.O.Sink.faults c.in-Err.ensures.out)
+pub returns-in-Ok-clause-left : goal.returns-in-Ok-clause-left
+returns-in-Ok-clause-left g c = run_left c.in-Ok-run.played c.played_status.result c.args.text.now c.args.program.now.kernel c.in-Ok.image _ _ _
+    c.requires.program c.in-Ok.ensures c.in-Ok-run.ensures.left c.played_status.ensures
+
+pub returns-in-Err-clause-answer : goal.returns-in-Err-clause-answer
+returns-in-Err-clause-answer g c = text_unmet (ap g.I.Source.left c.in-Err.ensures.input) (ap g.O.Sink.held c.in-Err.ensures.out) (ap g.I.Source.faults c.in-Err.ensures.input) (ap g.O.Sink.faults c.in-Err.ensures.out)
