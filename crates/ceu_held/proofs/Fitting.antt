@@ -24,7 +24,8 @@ use Rattle.ceu_held.specs.Kinds.{cell_fits, slot_fits, fits_declared, fits_count
 use Rattle.ceu_held.proofs.Slots.{once, at_room, decls_room, turns_room, layer_room, code_room, room, each_room, all_room}
 use Rattle.ceu_held.proofs.Values.{held, Lie, held_at}
 use Rattle.ceu_held.proofs.Covers.{slot_is, kind_same}
-use Rattle.ceu_held.proofs.Rows.{inner_pools, decl_rows, loop_rows, block_rows, rows, Among, Incl, incl_left, incl_right, blocks_all_rows, kind_of_row}
+use Rattle.ceu_held.specs.Declared.{inner_pools, decl_rows, loop_rows, block_rows, rows}
+use Rattle.ceu_held.proofs.Rows.{Among, Incl, incl_left, incl_right, blocks_all_rows, kind_of_row}
 use Rattle.ceu_held.proofs.Known.{row, KnownSeen, Known, decls_known, list_known, parts_known, part_known, turn_known, async_known, params_known, code_known}
 
 split : (a b : ℕ) → 1 ≤ a + b → (1 ≤ a) ⊎ (1 ≤ b)

@@ -16,7 +16,8 @@ use Rattle.ceu_tree.specs.Focus.{Frame, Focus}
 use Rattle.ceu_tree.specs.Leaf.{Layer, code_at}
 use Rattle.ceu_tree.specs.Proper.{SlotKind, IsLoopVariable, IsPool, Seen, Scope, find, pools_seen, pool_slots, slot_kind, declared_seen, is_proper}
 use Rattle.ceu_legal.specs.Shape.{Part, ABlock, AStatement, AnEnd, block_scope, part_scope, turn_scope, async_scope, code_part, program_part, among_arms, opens_part, FrameFits, around_statement, around_end, around_instance, around_part, around_turn, around_call, around_branch, Around, nothing_around, one_around}
-use Rattle.ceu_held.proofs.Rows.{Row, inner_pools, decl_rows, loop_rows, block_rows, stmt_rows, code_pools, codes_rows, rows, Incl, incl_left, incl_right, among_right, among_left, list_all_rows, blocks_all_rows, arms_all_rows, parts_rows, block_rows_is, parts_in, code_rows_in, kind_at, kind_of_row}
+use Rattle.ceu_held.specs.Declared.{Row, inner_pools, decl_rows, loop_rows, block_rows, stmt_rows, code_pools, codes_rows, rows, kind_at}
+use Rattle.ceu_held.proofs.Rows.{Incl, incl_left, incl_right, among_right, among_left, list_all_rows, blocks_all_rows, arms_all_rows, parts_rows, block_rows_is, parts_in, code_rows_in, kind_of_row}
 
 abbrev pub row : ℕ → SlotKind → Row
 row slot k = record { slot = slot; kind = Some k }

@@ -39,7 +39,8 @@ use Rattle.ceu_held.proofs.Aborts.{LieIn}
 use Rattle.ceu_held.proofs.Given.{does_given}
 use Rattle.ceu_held.proofs.Kept.{is_name, killed_keeps, answered_keeps, acted_keeps}
 use Rattle.ceu_held.proofs.Seats.{each_seat, Calm, plug_seats, unplug_seats, leaves_seats}
-use Rattle.ceu_held.proofs.Agree.{low, one, agrees, plain_agrees, tests_more}
+use Rattle.ceu_held.specs.Names.{low, one, agrees}
+use Rattle.ceu_held.proofs.Agree.{plain_agrees, tests_more}
 use Rattle.ceu_held.proofs.NameRuns.{TreeNames, ConfigNames, lower, same_names, steps_names}
 
 -- ---- changes of leaves

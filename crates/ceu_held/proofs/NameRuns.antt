@@ -36,11 +36,12 @@ use Rattle.ceu_living.proofs.Reactions.{ConfigCounts, room_fine, next_counts, in
 use Rattle.ceu_held.proofs.Slots.{once}
 use Rattle.ceu_held.proofs.Aborts.{LieIn}
 use Rattle.ceu_held.proofs.Writes.{alias_set, writes, at_writes}
-use Rattle.ceu_held.proofs.Rows.{rows, kind_at}
+use Rattle.ceu_held.specs.Declared.{rows, kind_at}
 use Rattle.ceu_held.proofs.Known.{KnownSeen, Known, program_known, around_known}
 use Rattle.ceu_held.proofs.Seats.{each_seat, plug_seats, unplug_seats}
 use Rattle.ceu_held.proofs.Homed.{one_homed}
-use Rattle.ceu_held.proofs.Agree.{low, one, agrees, listed, seated_list, numbers_low, tests_more}
+use Rattle.ceu_held.specs.Names.{low, one, agrees}
+use Rattle.ceu_held.proofs.Agree.{listed, seated_list, numbers_low, tests_more}
 use Rattle.ceu_held.proofs.NameSteps.{out_seats, alias_known, SpawnKnown, stepped_names}
 
 module _ (K : Kernel) where

@@ -24,12 +24,13 @@ use Rattle.ceu_held.proofs.Slots.{once}
 use Rattle.ceu_held.proofs.Values.{held, lie_put}
 use Rattle.ceu_held.proofs.Aborts.{LieIn}
 use Rattle.ceu_held.proofs.Given.{does_given}
-use Rattle.ceu_held.proofs.Rows.{rows, kind_at}
+use Rattle.ceu_held.specs.Declared.{rows, kind_at}
 use Rattle.ceu_held.proofs.Kept.{is_name, set_keeps, parameters_keep, killed_keeps, answered_keeps, acted_keeps}
 use Rattle.ceu_held.proofs.Seats.{at_seat, each_seat, focus_seats, Calm, plug_seats, unplug_seats, graft_seats, woken_seats, unseat_seats, frame_takes, focus_takes, seated_seats}
 use Rattle.ceu_held.proofs.SeatsUp.{OutcomeSeats, Fresh, answered_seats, acted_seats}
 use Rattle.ceu_held.proofs.Homed.{frame_homed, homed}
-use Rattle.ceu_held.proofs.Agree.{names, low, names_number, suits, one, agrees, plain_agrees, listed, seated_list, tests_more}
+use Rattle.ceu_held.specs.Names.{names, low, suits, one, agrees}
+use Rattle.ceu_held.proofs.Agree.{names_number, plain_agrees, listed, seated_list, tests_more}
 
 -- a block around the leaf that has the pool is of the leaf's body
 takes_homed : (P : Seated → Type 0) (seat : Seat) (r : Residual) (inside : each_seat P r (InstanceBody seat.number)) (f : Focus Act) (body home : Body) → homed seat.pool f body home → P (at_seat seat home) → focus_takes P seat r inside f body

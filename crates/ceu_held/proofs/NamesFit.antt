@@ -24,10 +24,11 @@ use Rattle.ceu_held.proofs.Slots.{once}
 use Rattle.ceu_held.proofs.Values.{held, Lie, held_at}
 use Rattle.ceu_held.proofs.Covers.{slot_is}
 use Rattle.ceu_held.proofs.Writes.{all_variables, parameters_are}
-use Rattle.ceu_held.proofs.Rows.{inner_pools, decl_rows, block_rows, rows, Among, Incl, incl_left, incl_right, blocks_all_rows, kind_at, kind_of_row}
+use Rattle.ceu_held.specs.Declared.{inner_pools, decl_rows, block_rows, rows, kind_at}
+use Rattle.ceu_held.proofs.Rows.{Among, Incl, incl_left, incl_right, blocks_all_rows, kind_of_row}
 use Rattle.ceu_held.proofs.Known.{row, seen_pools, KnownSeen, Known, decls_known, list_known, parts_known, part_known, turn_known, async_known, code_known}
 use Rattle.ceu_held.proofs.Fitting.{EachKind, look_kind, one_kind}
-use Rattle.ceu_held.proofs.Agree.{low, suits, one, agrees}
+use Rattle.ceu_held.specs.Names.{low, suits, one, agrees}
 
 all_more : (p q : Seated → Bool) → ((x : Seated) → p x ≡ true → q x ≡ true) → (xs : List Seated) → list_all p xs ≡ true → list_all q xs ≡ true
 all_more p q f [] e = refl

@@ -27,15 +27,16 @@ use Rattle.ceu_living.proofs.Reactions.{instances_counted}
 use Rattle.ceu_held.specs.Held.{is_of_kind, lies_at, lies_declared, lies_counted, lies_turning, lies_given, lies_in, lies_in_branches, lies_in_instances, all_lie, ValuesLie}
 use Rattle.ceu_legal.proofs.RunFits.{run_fits}
 use Rattle.ceu_held.specs.Laws.{RunNamesLegal, SlotKinds, RunSlotKinds, RunSlotsLegal}
-use Rattle.ceu_held.proofs.Slots.{room, focus_room, plug_room, lies_room}
+use Rattle.ceu_held.proofs.Slots.{once, once_is, room, focus_room, plug_room, lies_room}
 use Rattle.ceu_held.proofs.Values as values
 use Rattle.ceu_held.proofs.Values.{Lie, lie_more, lie_all}
 use Rattle.ceu_held.proofs.Reactions.{TreeLies, ConfigLies, next_lies, steps_lie}
 use Rattle.ceu_held.proofs.Commands.{done_lies, run_lies}
 use Rattle.ceu_held.proofs.Known.{program_known}
 use Rattle.ceu_held.proofs.Fitting.{EachKind, each_lies, tree_fits}
-use Rattle.ceu_held.proofs.NameRuns.{ConfigNames}
-use Rattle.ceu_held.proofs.NameCommands.{run_names}
+use Rattle.ceu_held.specs.Names.{agrees, all_agree, NamesHold}
+use Rattle.ceu_held.proofs.NameRuns.{TreeNames, ConfigNames, next_names, steps_names}
+use Rattle.ceu_held.proofs.NameCommands.{done_names, run_names}
 use Rattle.ceu_held.proofs.NamesFit.{tree_names}
 
 -- ---- what is counted, and what is said
@@ -78,6 +79,43 @@ module _ (K : Kernel) where
 
     pub run_held : (n : ℕ) (xs : List Command) → ValuesLie K (run K n xs)
     run_held n xs = config_lies (run K n xs) (run_lies K proper n xs)
+
+-- ---- which instances aliases name
+
+module _ (K : Kernel) where
+  tree_tested : (r : Residual) (w : World) → all_agree K r w → TreeNames K r w
+  tree_tested r w e = lie_all (λ h. once (agrees K w.given (seats r Program) h)) (agrees K w.given (seats r Program)) (λ h. once_is (agrees K w.given (seats r Program) h)) w.values e
+
+  tree_agrees : (r : Residual) (w : World) → TreeNames K r w → all_agree K r w
+  tree_agrees r w l =
+      values.all_lie (λ h. once (agrees K w.given (seats r Program) h)) (agrees K w.given (seats r Program)) (λ h n. once_is (agrees K w.given (seats r Program) h) ∙ lt-ltb 0 (once (agrees K w.given (seats r Program) h)) (omega (arith, n))) w.values l
+
+  config_tested : (c : Config) → NamesHold K c → ConfigNames K c
+  config_tested (Turning n f w) e = tree_tested (plug f Over) w e
+  config_tested (Between n r w) e = tree_tested r w e
+  config_tested (Waiting r w) e = tree_tested r w e
+  config_tested (Ended v w) e = tt
+  config_tested (Faulted z w) e = tt
+
+  config_agrees : (c : Config) → ConfigNames K c → NamesHold K c
+  config_agrees (Turning n f w) l = tree_agrees (plug f Over) w l
+  config_agrees (Between n r w) l = tree_agrees r w l
+  config_agrees (Waiting r w) l = tree_agrees r w l
+  config_agrees (Ended v w) l = tt
+  config_agrees (Faulted z w) l = tt
+
+  module _ (proper : is_proper K ≡ true) where
+    pub next_hold : (c : Config) → ConfigFits K c → InstancesStand c → NamesHold K c → NamesHold K (next K c)
+    next_hold c t s h = config_agrees (next K c) (next_names K proper c t (instances_counted K proper c t s) (config_tested c h))
+
+    pub steps_hold : (n : ℕ) (c : Config) → ConfigFits K c → InstancesStand c → NamesHold K c → NamesHold K (steps K n c)
+    steps_hold n c t s h = config_agrees (steps K n c) (steps_names K proper n c t (instances_counted K proper c t s) (config_tested c h))
+
+    pub done_hold : (n : ℕ) (x : Command) (c : Config) → ConfigFits K c → InstancesStand c → NamesHold K c → NamesHold K (done K n x c)
+    done_hold n x c t s h = config_agrees (done K n x c) (done_names K proper n x c t (instances_counted K proper c t s) (config_tested c h))
+
+    pub run_hold : (n : ℕ) (xs : List Command) → NamesHold K (run K n xs)
+    run_hold n xs = config_agrees (run K n xs) (run_names K proper n xs)
 
 -- ---- the kinds of open slots
 

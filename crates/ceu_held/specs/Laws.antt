@@ -12,7 +12,7 @@ use Rattle.ceu_legal.specs.Shape.{ConfigFits}
 use Rattle.ceu_living.specs.Instances.{InstancesStand}
 use Rattle.ceu_held.specs.Held.{ValuesLie}
 use Rattle.ceu_held.specs.Kinds.{kinds_fit}
-use Rattle.ceu_held.specs.Names.{names_agree}
+use Rattle.ceu_held.specs.Names.{names_agree, NamesHold}
 
 abbrev pub BootHeld : Type 0
 BootHeld = (K : Kernel) → ValuesLie K (booted K)
@@ -36,6 +36,23 @@ SlotKinds = (K : Kernel) (r : Residual) (w : World) → Proper K → ConfigFits 
 
 abbrev pub RunSlotKinds : Type 0
 RunSlotKinds = (K : Kernel) (n : ℕ) (xs : List Command) (r : Residual) (w : World) → Proper K → run K n xs ≡ Waiting r w → kinds_fit K.codes w r Program ≡ true
+
+-- ---- which instances aliases name
+
+abbrev pub BootNames : Type 0
+BootNames = (K : Kernel) → NamesHold K (booted K)
+
+abbrev pub StepNames : Type 0
+StepNames = (K : Kernel) (c : Config) → Proper K → ConfigFits K c → InstancesStand c → NamesHold K c → NamesHold K (next K c)
+
+abbrev pub ReactionNames : Type 0
+ReactionNames = (K : Kernel) (n : ℕ) (c : Config) → Proper K → ConfigFits K c → InstancesStand c → NamesHold K c → NamesHold K (steps K n c)
+
+abbrev pub CommandNames : Type 0
+CommandNames = (K : Kernel) (n : ℕ) (x : Command) (c : Config) → Proper K → ConfigFits K c → InstancesStand c → NamesHold K c → NamesHold K (done K n x c)
+
+abbrev pub RunNames : Type 0
+RunNames = (K : Kernel) (n : ℕ) (xs : List Command) → Proper K → NamesHold K (run K n xs)
 
 -- ---- in the words of legality
 

@@ -1,4 +1,5 @@
 pub mod Held
 pub mod Kinds
+pub mod Declared
 pub mod Names
 pub mod Laws

@@ -4,7 +4,22 @@
 //! alias that names an instance that lives names one that it may name.
 #![tactic(auto)]
 
-ghost use Rattle.ceu_held.specs.Laws.{BootHeld, CommandHeld, ReactionHeld, RunHeld, RunNamesLegal, RunSlotKinds, RunSlotsLegal, SlotKinds, StepHeld};
+ghost use Rattle.ceu_held.specs.Laws.{
+  BootHeld,
+  BootNames,
+  CommandHeld,
+  CommandNames,
+  ReactionHeld,
+  ReactionNames,
+  RunHeld,
+  RunNames,
+  RunNamesLegal,
+  RunSlotKinds,
+  RunSlotsLegal,
+  SlotKinds,
+  StepHeld,
+  StepNames,
+};
 
 /// At the start no value is held.
 pub fn boot_held()
@@ -39,6 +54,32 @@ pub fn slot_kinds()
 /// So it is wherever a run of a proper kernel waits.
 pub fn run_slot_kinds()
     ensures { RunSlotKinds }
+{}
+
+/// At the start no alias names an instance.
+pub fn boot_names()
+    ensures { BootNames }
+{}
+
+/// A step of a configuration that fits a proper kernel keeps it so that an alias that names an instance that lives names one of its code, in a pool that
+/// the alias may have, and of its body: what each slot is declared as is told by its number.
+pub fn step_names()
+    ensures { StepNames }
+{}
+
+/// So does any number of steps of a reaction,
+pub fn reaction_names()
+    ensures { ReactionNames }
+{}
+
+/// and an input, an advance of the clock and idle turns.
+pub fn command_names()
+    ensures { CommandNames }
+{}
+
+/// So it is in each configuration of every run of a proper kernel.
+pub fn run_names()
+    ensures { RunNames }
 {}
 
 /// Where such a run waits, each value is of an open slot, as a legal configuration has it.
