@@ -23,4 +23,5 @@ pub mod NameSteps
 pub mod NamesFit
 pub mod NameRuns
 pub mod NameCommands
+pub mod Typing
 pub mod Runs

@@ -26,7 +26,12 @@ use Rattle.ceu_living.specs.Instances.{InstancesStand}
 use Rattle.ceu_living.proofs.Reactions.{instances_counted}
 use Rattle.ceu_held.specs.Held.{is_of_kind, lies_at, lies_declared, lies_counted, lies_turning, lies_given, lies_in, lies_in_branches, lies_in_instances, all_lie, ValuesLie}
 use Rattle.ceu_legal.proofs.RunFits.{run_fits}
-use Rattle.ceu_held.specs.Laws.{RunNamesLegal, SlotKinds, RunSlotKinds, RunSlotsLegal}
+use Rattle.ceu_tree.specs.Abort.{aborted}
+use Rattle.ceu_legal.proofs.RunFits.{root_sound}
+use Rattle.ceu_held.specs.Typed.{is_typed, all_typed}
+use Rattle.ceu_held.proofs.Aborts.{LieIn}
+use Rattle.ceu_held.proofs.Typing.{aborted_typed, assigned_value}
+use Rattle.ceu_held.specs.Laws.{AbortTyped, AssignTyped, RunNamesLegal, SlotKinds, RunSlotKinds, RunSlotsLegal}
 use Rattle.ceu_held.proofs.Slots.{once, once_is, room, focus_room, plug_room, lies_room}
 use Rattle.ceu_held.proofs.Values as values
 use Rattle.ceu_held.proofs.Values.{Lie, lie_more, lie_all}
@@ -127,6 +132,19 @@ kinds_are K r w p t v = tree_fits K p w (each_kind K p r w t v) t (program_known
 
 pub run_kinds : RunSlotKinds
 run_kinds K n xs r w p e = kinds_are K r w p (subst (ConfigFits K) e (run_fits K p n xs)) (subst (ValuesLie K) e (run_held K p n xs))
+
+-- ---- types
+
+all_tested : (K : Kernel) (w : World) → all_typed K w → LieIn (λ h. once (is_typed K h)) w
+all_tested K w e = lie_all (λ h. once (is_typed K h)) (is_typed K) (λ h. once_is (is_typed K h)) w.values e
+
+pub abort_types : AbortTyped
+abort_types K top r w p t e =
+    values.all_lie (λ h. once (is_typed K h)) (is_typed K) (λ h n. once_is (is_typed K h) ∙ lt-ltb 0 (once (is_typed K h)) (omega (arith, n))) (aborted r Program w).values
+    (aborted_typed K p t (root_sound K p) (program_known K p) Program w (all_tested K w e))
+
+pub assign_types : AssignTyped
+assign_types K n f w s l e v p t q a x z = assigned_value K p n f w s l e v t q a (all_tested K w x) z
 
 -- ---- in the words of legality
 

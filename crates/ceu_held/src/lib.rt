@@ -5,6 +5,8 @@
 #![tactic(auto)]
 
 ghost use Rattle.ceu_held.specs.Laws.{
+  AbortTyped,
+  AssignTyped,
   BootHeld,
   BootNames,
   CommandHeld,
@@ -80,6 +82,16 @@ pub fn command_names()
 /// So it is in each configuration of every run of a proper kernel.
 pub fn run_names()
     ensures { RunNames }
+{}
+
+/// Where each variable that holds a value holds one of its type, an assignment gives its variable a value of its type,
+pub fn assign_typed()
+    ensures { AssignTyped }
+{}
+
+/// and an abortion of the program keeps it so, with all that its finalizers assign.
+pub fn abort_typed()
+    ensures { AbortTyped }
 {}
 
 /// Where such a run waits, each value is of an open slot, as a legal configuration has it.
