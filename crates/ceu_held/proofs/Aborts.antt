@@ -112,7 +112,7 @@ module _ (K : Kernel) (proper : is_proper K ≡ true) (g : ℕ) where
         let inner : Held → ℕ = λ k. frame_room K.codes g k (OfBlock b fin all rest) body + c k in
         let w1 = aborted r body w in
         let x1 = aborted_lie more (list_sound K proper sc b done s rest h e) body inner w (frame_covers K g {fr = OfBlock b fin all rest} {d = ABlock turn sc b} {e = AStatement (block_scope sc b) s} (around_statement done e f fit) c body o)
-            (lie_more (λ k. decls_room K.codes g k body (out-KBlock b).decls + (all_room K.codes g k all + room K.codes g k r body) + c k) (λ k. room K.codes g k r body + inner k) (λ k n. omega (arith, n)) w.values x) in
+        (lie_more (λ k. decls_room K.codes g k body (out-KBlock b).decls + (all_room K.codes g k all + room K.codes g k r body) + c k) (λ k. room K.codes g k r body + inner k) (λ k n. omega (arith, n)) w.values x) in
         let out = outer_inside K g b body c o.1 in
         let x2 = all_lie fit (λ k. decls_room K.codes g k body (out-KBlock b).decls + c k) w1 out (lie_more inner (λ k. all_room K.codes g k all + (decls_room K.codes g k body (out-KBlock b).decls + c k)) (λ k n. omega (arith, n)) w1.values x1) in
         ends_lie sc b fin body c (instances_aborted all w1) o.0 out (registered_fine sc b fin done (s ∷ rest) h e f) x2
@@ -154,7 +154,7 @@ module _ (K : Kernel) (proper : is_proper K ≡ true) (g : ℕ) where
         let d : Held → ℕ = λ j. room K.codes g j r body + (code j + c j) in
         let w1 = instances_aborted more w in
         let x1 = all_lie rest d w (own_more K g c d (program_seen K g) Program (λ j n. omega (arith, n)) u)
-            (lie_more (λ j. code j + (room K.codes g j r body + all_room K.codes g j more) + c j) (λ j. all_room K.codes g j more + d j) (λ j n. omega (arith, n)) w.values x) in
+        (lie_more (λ j. code j + (room K.codes g j r body + all_room K.codes g j more) + c j) (λ j. all_room K.codes g j more + d j) (λ j n. omega (arith, n)) w.values x) in
         lie_forget_body K.codes g body (code_at seat.code K.codes) c (aborted r body w1)
         (aborted_lie fit (code_static K seat.code k proper e) body (λ j. code j + c j) w1
         (own_more K g code (λ j. code j + c j) (code_scope K seat.code k).seen body (λ j n. omega (arith, n)) (code_own K g seat.code k body e), inl (own_more K g c (λ j. code j + c j) (program_seen K g) Program (λ j n. omega (arith, n)) u)) x1)

@@ -230,9 +230,9 @@ module _ (K : Kernel) (proper : is_proper K ≡ true) where
       let c = choice_fits K 1 Act (runs_at 0) l.fits in
       let d = choose_found Act (runs_at 0) (leaf o).inner in
       let counts = first_counts K proper (λ i. live_focus i o) k (body_of o Program) q (leaf o).inner w _ p c d
-          (counts_same (λ i. lives i r) (λ i. lives i (leaf o).inner + live_focus i o) w w (record { living = refl; given = refl })
-          (λ i. (let u = plug_lives i o x.was in let v = unserved_lives K proper i x.was (leaf o) x.picked in let y = ap (lives i) x.plugs in omega (arith, u, v, y))) z.0)
-          (unserved_stands K proper x.was (leaf o) x.picked f.1) in
+      (counts_same (λ i. lives i r) (λ i. lives i (leaf o).inner + live_focus i o) w w (record { living = refl; given = refl })
+      (λ i. (let u = plug_lives i o x.was in let v = unserved_lives K proper i x.was (leaf o) x.picked in let y = ap (lives i) x.plugs in omega (arith, u, v, y))) z.0)
+      (unserved_stands K proper x.was (leaf o) x.picked f.1) in
       after_lies k o _ r w l.scope l.block a l.layer (after_counts K proper 0 o _ r w l.scope l.block a l.layer f.0 z counts) h
       (first_lies o (body_of o Program) k q (leaf o).inner w _ p (λ g. async_covers g o l.scope (leaf o).stmt l.block a) c d
       (lie_more (λ i. room K.codes w.given i r Program) (λ i. room K.codes w.given i (leaf o).inner (body_of o Program) + focus_room K.codes w.given i o Program)

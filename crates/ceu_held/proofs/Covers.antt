@@ -137,22 +137,26 @@ module _ (K : Kernel) (g : ℕ) where
   -- ---- frames
 
   pub frame_covers : {t : ℕ} {fr : Frame} {d e : Part} → FrameFits K t fr d e → (c : Held → ℕ) (body : Body) → Covers c d body → Covers (λ h. frame_room K.codes g h fr body + c h) e (body_in fr body)
-  frame_covers {fr = fr} (around_statement {sc = sc} {b = b} done e f fit) c body o =
-      (own_more (λ h. decls_room K.codes g h body (out-KBlock b).decls + c h) (λ h. frame_room K.codes g h fr body + c h) (block_scope sc b).seen body (λ h l. omega (arith, l)) (block_own sc b body c o.0),
-       own_more (λ h. decls_room K.codes g h body (out-KBlock b).decls + c h) (λ h. frame_room K.codes g h fr body + c h) program_seen Program (λ h l. omega (arith, l)) (outer_inside b body c o.1))
+  frame_covers {fr = fr} (around_statement {sc = sc} {b = b} done e f fit) c body o = (
+    own_more (λ h. decls_room K.codes g h body (out-KBlock b).decls + c h) (λ h. frame_room K.codes g h fr body + c h) (block_scope sc b).seen body (λ h l. omega (arith, l)) (block_own sc b body c o.0),
+    own_more (λ h. decls_room K.codes g h body (out-KBlock b).decls + c h) (λ h. frame_room K.codes g h fr body + c h) program_seen Program (λ h l. omega (arith, l)) (outer_inside b body c o.1),
+  )
   frame_covers (around_end f fit) c body o = tt
-  frame_covers {fr = fr} (around_instance {b = b} {seat = seat} done k e f r x y p q) c body o =
-      (own_more (λ h. code_room K.codes g h (Spawned seat.number) (code_at seat.code K.codes)) (λ h. frame_room K.codes g h fr body + c h) (code_scope K seat.code k).seen (Spawned seat.number) (λ h l. omega (arith, l)) (code_own seat.code k (Spawned seat.number) q),
-       inl (own_more (λ h. decls_room K.codes g h body (out-KBlock b).decls + c h) (λ h. frame_room K.codes g h fr body + c h) program_seen Program (λ h l. omega (arith, l)) (outer_inside b body c o.1)))
+  frame_covers {fr = fr} (around_instance {b = b} {seat = seat} done k e f r x y p q) c body o = (
+    own_more (λ h. code_room K.codes g h (Spawned seat.number) (code_at seat.code K.codes)) (λ h. frame_room K.codes g h fr body + c h) (code_scope K seat.code k).seen (Spawned seat.number) (λ h l. omega (arith, l)) (code_own seat.code k (Spawned seat.number) q),
+    inl (own_more (λ h. decls_room K.codes g h body (out-KBlock b).decls + c h) (λ h. frame_room K.codes g h fr body + c h) program_seen Program (λ h l. omega (arith, l)) (outer_inside b body c o.1)),
+  )
   frame_covers (around_part {sc = sc} {s = s} b p) c body o =
       (own_more c (λ h. 0 + c h) (part_scope K sc s.node (out-KStmt s.stmt)).seen body (λ h l. omega (arith, l)) (part_own sc s.node (out-KStmt s.stmt) b body c p o.0), inl (own_more c (λ h. 0 + c h) program_seen Program (λ h l. omega (arith, l)) o.1))
-  frame_covers {fr = fr} (around_turn {sc = sc} {s = s} k b e q) c body o =
-      (subst (λ l. Own (λ h. layer_room K.codes g h body l + c h) (turn_scope K sc s.node k).seen body) (sym e) (turns_own sc s.node k body c o.0),
-       inl (own_more c (λ h. frame_room K.codes g h fr body + c h) program_seen Program (λ h l. omega (arith, l)) o.1))
-  frame_covers {fr = fr} (around_call {s = s} i es f t k e q) c body o =
-      (own_more (λ h. code_room K.codes g h (Awaited body s.node) (called_code K.codes (out-KStmt s.stmt))) (λ h. frame_room K.codes g h fr body + c h) (code_scope K i k).seen (Awaited body s.node) (λ h l. omega (arith, l))
-       (subst (λ l. Own (λ h. code_room K.codes g h (Awaited body s.node) (called_code K.codes l)) (code_scope K i k).seen (Awaited body s.node)) (sym e) (code_own i k (Awaited body s.node) q)),
-       inl (own_more c (λ h. frame_room K.codes g h fr body + c h) program_seen Program (λ h l. omega (arith, l)) o.1))
+  frame_covers {fr = fr} (around_turn {sc = sc} {s = s} k b e q) c body o = (
+    subst (λ l. Own (λ h. layer_room K.codes g h body l + c h) (turn_scope K sc s.node k).seen body) (sym e) (turns_own sc s.node k body c o.0),
+    inl (own_more c (λ h. frame_room K.codes g h fr body + c h) program_seen Program (λ h l. omega (arith, l)) o.1),
+  )
+  frame_covers {fr = fr} (around_call {s = s} i es f t k e q) c body o = (
+    own_more (λ h. code_room K.codes g h (Awaited body s.node) (called_code K.codes (out-KStmt s.stmt))) (λ h. frame_room K.codes g h fr body + c h) (code_scope K i k).seen (Awaited body s.node) (λ h l. omega (arith, l))
+        (subst (λ l. Own (λ h. code_room K.codes g h (Awaited body s.node) (called_code K.codes l)) (code_scope K i k).seen (Awaited body s.node)) (sym e) (code_own i k (Awaited body s.node) q)),
+    inl (own_more c (λ h. frame_room K.codes g h fr body + c h) program_seen Program (λ h l. omega (arith, l)) o.1),
+  )
   frame_covers {fr = fr} (around_branch {sc = sc} k slot bs b cs e x y) c body o =
       (own_more c (λ h. frame_room K.codes g h fr body + c h) sc.seen body (λ h l. omega (arith, l)) o.0, inl (own_more c (λ h. frame_room K.codes g h fr body + c h) program_seen Program (λ h l. omega (arith, l)) o.1))
 

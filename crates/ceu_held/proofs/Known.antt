@@ -62,10 +62,11 @@ module _ (K : Kernel) (proper : is_proper K ≡ true) where
   pub list_known : (turn : Bool) (sc : Scope) (b : KBlock) (done : List KNode) (s : KNode) (rest : List KNode) → (out-KBlock b).list ≡ done ++ s ∷ rest → Known (ABlock turn sc b) → Known (AStatement (block_scope sc b) s)
   list_known turn sc b done s rest e h =
       let ds = (out-KBlock b).decls in
-      let ps = inner_pools (pools_seen sc.seen) ds in
-      (subst (λ l. Incl (stmt_rows l s.stmt) (rows K)) (sym (seen_pools ps ds sc.seen))
-       (node_known ps done s rest (subst (λ l. Incl (list_all_rows ps l) (rows K)) e (incl_right (decl_rows ps ds) (list_all_rows ps (out-KBlock b).list) (rows K) (subst (λ l. Incl l (rows K)) (block_rows_is (pools_seen sc.seen) b) h.0)))),
-       block_known sc b h.0 h.1)
+      let ps = inner_pools (pools_seen sc.seen) ds in (
+        subst (λ l. Incl (stmt_rows l s.stmt) (rows K)) (sym (seen_pools ps ds sc.seen))
+            (node_known ps done s rest (subst (λ l. Incl (list_all_rows ps l) (rows K)) e (incl_right (decl_rows ps ds) (list_all_rows ps (out-KBlock b).list) (rows K) (subst (λ l. Incl l (rows K)) (block_rows_is (pools_seen sc.seen) b) h.0)))),
+        block_known sc b h.0 h.1,
+      )
 
   pub parts_known : (ps : List ℕ) (s : KNode) (layer : Layer) → out-KStmt s.stmt ≡ layer → Incl (stmt_rows ps s.stmt) (rows K) → Incl (parts_rows ps layer) (rows K)
   parts_known ps s layer e h = subst (λ l. Incl (parts_rows ps l) (rows K)) e (λ r m. h r (parts_in ps s.stmt r m))

@@ -49,7 +49,7 @@ module _ (K : Kernel) (proper : is_proper K ≡ true) (g : ℕ) where
       let e : Held → ℕ = λ h. m h + d h in
       let w1 = branches_aborted back body w in
       let x1 = each_lie K proper g z f.1 body e w (own_more K g c e sc.seen body (λ h n. omega (arith, n)) o) (own_more K g c e (program_seen K g) Program (λ h n. omega (arith, n)) u)
-          (lie_more (λ h. each_room K.codes g h front body + each_room K.codes g h back body + m h + c h) (λ h. each_room K.codes g h back body + e h) (λ h n. omega (arith, n)) w.values x) in
+      (lie_more (λ h. each_room K.codes g h front body + each_room K.codes g h back body + m h + c h) (λ h. each_room K.codes g h back body + e h) (λ h n. omega (arith, n)) w.values x) in
       let x2 = ih d w1 (own_more K g c d sc.seen body (λ h n. omega (arith, n)) o, inl (own_more K g c d (program_seen K g) Program (λ h n. omega (arith, n)) u)) x1 in
       subst (LieIn c) (sym (branches_joined front (branch q back) body w)) (each_lie K proper g y f.0 body c (aborted q body w1) o u x2)
 
@@ -66,7 +66,7 @@ module _ (K : Kernel) (proper : is_proper K ≡ true) (g : ℕ) where
       let v : Held → ℕ = λ h. m h + e h in
       let w1 = instances_aborted back w in
       let x1 = all_lie K proper g z v w (own_more K g c v (program_seen K g) Program (λ h n. omega (arith, n)) u)
-          (lie_more (λ h. all_room K.codes g h front + (code h + all_room K.codes g h back) + m h + c h) (λ h. all_room K.codes g h back + v h) (λ h n. omega (arith, n)) w.values x) in
+      (lie_more (λ h. all_room K.codes g h front + (code h + all_room K.codes g h back) + m h + c h) (λ h. all_room K.codes g h back + v h) (λ h n. omega (arith, n)) w.values x) in
       let x2 = ih e w1 (own_more K g code e (code_scope K seat.code k).seen body (λ h n. omega (arith, n)) (code_own K g seat.code k body r), inl (own_more K g c e (program_seen K g) Program (λ h n. omega (arith, n)) u)) x1 in
       let x3 = lie_forget_body K.codes g body (code_at seat.code K.codes) d (aborted q body w1) x2 in
       subst (LieIn c) (sym (instances_joined front (instance seat q back) w)) (all_lie K proper g y c (dead seat.number (aborted q body w1)) u x3)
@@ -77,7 +77,7 @@ module _ (K : Kernel) (proper : is_proper K ≡ true) (g : ℕ) where
   frame_leaves {fr = OfBlock b fin all rest} (around_statement {turn = turn} {sc = sc} {s = s} done e f fit) h m q body ih c w o x =
       let i : Held → ℕ = λ h. frame_room K.codes g h (OfBlock b fin all rest) body + c h in
       let x1 = ih i w (frame_covers K g {fr = OfBlock b fin all rest} {d = ABlock turn sc b} {e = AStatement (block_scope sc b) s} (around_statement done e f fit) c body o)
-          (lie_more (λ h. frame_room K.codes g h (OfBlock b fin all rest) body + m h + c h) (λ h. m h + i h) (λ h n. omega (arith, n)) w.values x) in
+      (lie_more (λ h. frame_room K.codes g h (OfBlock b fin all rest) body + m h + c h) (λ h. m h + i h) (λ h n. omega (arith, n)) w.values x) in
       closed_lie turn b fin body c (aborted q body w) fit o (registered_fine K proper g sc b fin done (s ∷ rest) h e f)
       (lie_more i (λ h. all_room K.codes g h all + (decls_room K.codes g h body (out-KBlock b).decls + c h)) (λ h n. omega (arith, n)) (aborted q body w).values x1)
   frame_leaves {fr = OfBlock b fin all rest} (around_end {turn = turn} {sc = sc} f fit) h m q body ih c w o x =
@@ -91,8 +91,8 @@ module _ (K : Kernel) (proper : is_proper K ≡ true) (g : ℕ) where
       let v : Held → ℕ = λ h. all_room K.codes g h front + (code_room K.codes g h (Spawned seat.number) (code_at seat.code K.codes) + all_room K.codes g h back) + m h + d h in
       let w1 = aborted r body w in
       let x1 = aborted_lie K proper g fit (list_sound K proper sc b done s rest h e) body v w
-          (own_more K g d v (block_scope sc b).seen body (λ h n. omega (arith, n)) (block_own K g sc b body c o.0), own_more K g d v (program_seen K g) Program (λ h n. omega (arith, n)) out)
-          (lie_more (λ h. frame_room K.codes g h (OfInstance b fin front seat back r rest) body + m h + c h) (λ h. room K.codes g h r body + v h) (λ h n. omega (arith, n)) w.values x) in
+      (own_more K g d v (block_scope sc b).seen body (λ h n. omega (arith, n)) (block_own K g sc b body c o.0), own_more K g d v (program_seen K g) Program (λ h n. omega (arith, n)) out)
+      (lie_more (λ h. frame_room K.codes g h (OfInstance b fin front seat back r rest) body + m h + c h) (λ h. room K.codes g h r body + v h) (λ h n. omega (arith, n)) w.values x) in
       ends_lie K proper g sc b fin body c (instances_aborted (join_instances front (instance seat q back)) w1) o.0 out (registered_fine K proper g sc b fin done (s ∷ rest) h e f)
       (instances_lie seat k m q d w1 y z code out ih x1)
   frame_leaves {fr = OfOpen s} (around_part {sc = sc} b p) h m q body ih c w o x =

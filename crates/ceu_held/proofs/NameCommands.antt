@@ -269,9 +269,9 @@ module _ (K : Kernel) where
         let c = choice_fits K 1 Act (runs_at 0) l.fits in
         let d = choose_found Act (runs_at 0) (leaf o).inner in
         let counts = first_counts K proper (λ i. live_focus i o) k (body_of o Program) q (leaf o).inner w _ p c d
-            (counts_same (λ i. lives i r) (λ i. lives i (leaf o).inner + live_focus i o) w w (record { living = refl; given = refl })
-            (λ i. (let u = plug_lives i o x.was in let v = unserved_lives K proper i x.was (leaf o) x.picked in let y = ap (lives i) x.plugs in omega (arith, u, v, y))) z.0)
-            (unserved_stands K proper x.was (leaf o) x.picked f.1) in
+        (counts_same (λ i. lives i r) (λ i. lives i (leaf o).inner + live_focus i o) w w (record { living = refl; given = refl })
+        (λ i. (let u = plug_lives i o x.was in let v = unserved_lives K proper i x.was (leaf o) x.picked in let y = ap (lives i) x.plugs in omega (arith, u, v, y))) z.0)
+        (unserved_stands K proper x.was (leaf o) x.picked f.1) in
         after_names k o _ r w l.scope l.block a l.layer x (after_counts K proper 0 o _ r w l.scope l.block a l.layer f.0 z counts) h (first_keeps k (body_of o Program) q (leaf o).inner w _ p c)
 
     idle_turn_names : (k : ℕ) (c : Config) → ConfigFits K c → ConfigCounts c → ConfigNames K c → ConfigNames K (idle_turn K k c)

@@ -133,6 +133,6 @@ module _ (K : Kernel) (proper : is_proper K ≡ true) (g : ℕ) where
       let m = up (body_in fr body) f x w in
       let i : Held → ℕ = λ k. frame_room K.codes g k fr body + c k in
       let inner = up_lie more (frame_sound K proper a h) x (body_in fr body) i w (frame_covers K g a c body o) z
-          (lie_more (λ k. frame_room K.codes g k fr body + focus_room K.codes g k f (body_in fr body) + c k) (λ k. focus_room K.codes g k f (body_in fr body) + i k) (λ k n. omega (arith, n)) w.values l) in
+      (lie_more (λ k. frame_room K.codes g k fr body + focus_room K.codes g k f (body_in fr body) + c k) (λ k. focus_room K.codes g k f (body_in fr body) + i k) (λ k n. omega (arith, n)) w.values l) in
       through_lie body c f m.world fr m.outcome a h o (focus_leaves K proper g more (frame_sound K proper a h) (body_in fr body))
       (lie_more (λ k. left K proper g k (body_in fr body) f m.outcome + i k) (λ k. frame_room K.codes g k fr body + left K proper g k (body_in fr body) f m.outcome + c k) (λ k n. omega (arith, n)) m.world.values inner)
