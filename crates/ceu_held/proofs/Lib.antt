@@ -24,4 +24,5 @@ pub mod NamesFit
 pub mod NameRuns
 pub mod NameCommands
 pub mod Typing
+pub mod Starts
 pub mod Runs

@@ -170,7 +170,8 @@ unfolding stmt_rows
 arms_is ps end_of-KArm = refl
 arms_is ps (more_of-KArm a rest) = ap (λ l. l ++ arms_rows ps rest) (arm_is ps a) ∙ ap (λ l. block_rows ps (out-KArm a).body ++ l) (arms_is ps rest)
 
-pub block_rows_is : (ps : List ℕ) (b : KBlock) → block_rows ps b ≡ decl_rows (inner_pools ps (out-KBlock b).decls) (out-KBlock b).decls ++ list_all_rows (inner_pools ps (out-KBlock b).decls) (out-KBlock b).list
+pub block_rows_is : (ps : List ℕ) (b : KBlock)
+    → block_rows ps b ≡ decl_rows (inner_pools ps (out-KBlock b).decls) (out-KBlock b).decls ++ list_all_rows (inner_pools ps (out-KBlock b).decls) (out-KBlock b).list
 unfolding stmt_rows out-KBlock Carrier.out
 block_rows_is ps (KBlock' n ds x list) = ap (λ l. decl_rows (inner_pools ps ds) ds ++ l) (list_is (inner_pools ps ds) list ∙ ap (list_all_rows (inner_pools ps ds)) (sym (items_shown-the_row-KNode-2 x list)))
 
@@ -184,7 +185,8 @@ parts_in ps (Par' k slot x bs) r m =
     among_right r (hidden (par_slots k slot (row_length bs))) (blocks_rows ps bs) (subst (Among r) (ap (blocks_all_rows ps) (items_shown-the_row-KBlock-1 x bs) ∙ sym (blocks_is ps bs)) m)
 parts_in ps st r m = absurd m
 
-pub code_rows_in : (c : ℕ) (cs : List KCode) (k : KCode) → code_at c cs ≡ Some k → Incl (decl_rows (inner_pools [] k.params) k.params ++ block_rows (code_pools k) k.body) (codes_rows cs)
+pub code_rows_in : (c : ℕ) (cs : List KCode) (k : KCode) → code_at c cs ≡ Some k
+    → Incl (decl_rows (inner_pools [] k.params) k.params ++ block_rows (code_pools k) k.body) (codes_rows cs)
 code_rows_in c [] k e = absurd (cc)
 code_rows_in zero (x ∷ cs) k e =
     let same : x ≡ k = ap (λ o. elim o [ None ↦ x | Some y ↦ y ]) e in

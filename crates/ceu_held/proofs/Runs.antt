@@ -30,8 +30,9 @@ use Rattle.ceu_tree.specs.Abort.{aborted}
 use Rattle.ceu_legal.proofs.RunFits.{root_sound}
 use Rattle.ceu_held.specs.Typed.{is_typed, all_typed}
 use Rattle.ceu_held.proofs.Aborts.{LieIn}
-use Rattle.ceu_held.proofs.Typing.{aborted_typed, assigned_value}
-use Rattle.ceu_held.specs.Laws.{AbortTyped, AssignTyped, RunNamesLegal, SlotKinds, RunSlotKinds, RunSlotsLegal}
+use Rattle.ceu_held.proofs.Typing.{aborted_typed}
+use Rattle.ceu_held.proofs.Starts.{turn_starts}
+use Rattle.ceu_held.specs.Laws.{AbortTyped, StartTyped, RunNamesLegal, SlotKinds, RunSlotKinds, RunSlotsLegal}
 use Rattle.ceu_held.proofs.Slots.{once, once_is, room, focus_room, plug_room, lies_room}
 use Rattle.ceu_held.proofs.Values as values
 use Rattle.ceu_held.proofs.Values.{Lie, lie_more, lie_all}
@@ -124,7 +125,8 @@ module _ (K : Kernel) where
 
 -- ---- the kinds of open slots
 
-each_kind : (K : Kernel) (proper : is_proper K ≡ true) (r : Residual) (w : World) → ConfigFits K (Waiting r w) → ValuesLie K (Waiting r w) → EachKind K proper w.given w.values
+each_kind : (K : Kernel) (proper : is_proper K ≡ true) (r : Residual) (w : World) → ConfigFits K (Waiting r w) → ValuesLie K (Waiting r w)
+    → EachKind K proper w.given w.values
 each_kind K p r w t v = each_lies K p w.given t (program_known K p) Program w.values (tree_counted K r w v)
 
 pub kinds_are : SlotKinds
@@ -143,8 +145,8 @@ abort_types K top r w p t e =
     values.all_lie (λ h. once (is_typed K h)) (is_typed K) (λ h n. once_is (is_typed K h) ∙ lt-ltb 0 (once (is_typed K h)) (omega (arith, n))) (aborted r Program w).values
     (aborted_typed K p t (root_sound K p) (program_known K p) Program w (all_tested K w e))
 
-pub assign_types : AssignTyped
-assign_types K n f w s l e v p t q a x z = assigned_value K p n f w s l e v t q a (all_tested K w x) z
+pub start_types : StartTyped
+start_types K n f w s p t q a = turn_starts K p n f w s t q (all_tested K w a)
 
 -- ---- in the words of legality
 
@@ -168,18 +170,22 @@ module _ (codes : List KCode) (g : ℕ) (h : Held) where
   abbrev is_here : OpenSlot → Bool
   is_here x = (x.slot == h.slot) && same_body x.body h.body
 
-  both : (xs ys : List OpenSlot) (a b : Bool) → (a ≡ true → is_open_slot xs h ≡ true) → (b ≡ true → is_open_slot ys h ≡ true) → (a || b) ≡ true → is_open_slot (xs ++ ys) h ≡ true
+  both : (xs ys : List OpenSlot) (a b : Bool) → (a ≡ true → is_open_slot xs h ≡ true) → (b ≡ true → is_open_slot ys h ≡ true) → (a || b) ≡ true
+      → is_open_slot (xs ++ ys) h ≡ true
   both xs ys true b f g e = any_left is_here xs ys (f refl)
   both xs ys false b f g e = any_right is_here xs ys (g e)
 
-  open_at : (body : Body) (slot : ℕ) (k : KKind) (xs : List OpenSlot) → lies_at codes g h body slot k ≡ true → is_open_slot (record { body = body; slot = slot } ∷ xs) h ≡ true
+  open_at : (body : Body) (slot : ℕ) (k : KKind) (xs : List OpenSlot) → lies_at codes g h body slot k ≡ true
+      → is_open_slot (record { body = body; slot = slot } ∷ xs) h ≡ true
   open_at body slot k xs e = ap (λ b. b || is_open_slot xs h) (and_parts ((slot == h.slot) && same_body body h.body) (is_of_kind g k h.cell) e).0
 
   open_decls : (body : Body) (ds : List KDecl) → lies_declared codes g h body ds ≡ true → is_open_slot (decls_open body ds) h ≡ true
   open_decls body [] e = e
   open_decls body (d ∷ ds) e = go (or_cases (lies_at codes g h body d.slot d.kind) (lies_declared codes g h body ds) e) (open_decls body ds)
     where
-      go : (lies_at codes g h body d.slot d.kind ≡ true) ⊎ (lies_declared codes g h body ds ≡ true) → (lies_declared codes g h body ds ≡ true → is_open_slot (decls_open body ds) h ≡ true) → is_open_slot (record { body = body; slot = d.slot } ∷ decls_open body ds) h ≡ true
+      go : (lies_at codes g h body d.slot d.kind ≡ true) ⊎ (lies_declared codes g h body ds ≡ true)
+          → (lies_declared codes g h body ds ≡ true → is_open_slot (decls_open body ds) h ≡ true)
+          → is_open_slot (record { body = body; slot = d.slot } ∷ decls_open body ds) h ≡ true
       go (inl e) ih = open_at body d.slot d.kind (decls_open body ds) e
       go (inr e) ih = any_right is_here (record { body = body; slot = d.slot } ∷ []) (decls_open body ds) (ih e)
 
@@ -229,7 +235,8 @@ module _ (codes : List KCode) (g : ℕ) (h : Held) where
         (both (code_open body (code_at seat.code codes)) (open_slots codes r body ++ instances_open codes more) _ _ (open_code body (code_at seat.code codes))
         (both (open_slots codes r body) (instances_open codes more) _ _ (open_in r body) (open_all more)) e)
 
-all_open : (K : Kernel) (r : Residual) (g : ℕ) (hs : List Held) → list_all (λ h. lies_in K.codes g h r Program) hs ≡ true → list_all (is_open_slot (open_slots K.codes r Program)) hs ≡ true
+all_open : (K : Kernel) (r : Residual) (g : ℕ) (hs : List Held) → list_all (λ h. lies_in K.codes g h r Program) hs ≡ true
+    → list_all (is_open_slot (open_slots K.codes r Program)) hs ≡ true
 all_open K r g [] e = refl
 all_open K r g (h ∷ hs) e = let a = and_parts _ _ e in and_from _ _ (open_in K.codes g h r Program a.0) (all_open K r g hs a.1)
 

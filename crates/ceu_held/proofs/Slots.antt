@@ -150,7 +150,8 @@ module _ (codes : List KCode) (g : ℕ) (h : Held) where
         go true e = omega (arith, fill_room fr (each_in_body c f r) body, e)
         go false e = let a = plug_room (In fr f) r body in omega (arith, leaves_room (plug (In fr f) r) body, a)
 
-    pub woken_room : {A : Type 0} (code : Option ℕ) (f : Focus A) (r : Residual) (body : Body) → room (woken code c f r) body ≡ focus_room f body + room r (body_of f body)
+    pub woken_room : {A : Type 0} (code : Option ℕ) (f : Focus A) (r : Residual) (body : Body)
+        → room (woken code c f r) body ≡ focus_room f body + room r (body_of f body)
     woken_room None f r body = leaves_room (plug f r) body ∙ plug_room f r body
     woken_room (Some k) f r body = body_room f r body
 

@@ -1,5 +1,5 @@
 -- What an expression gives is a value of its type where each variable that holds a value holds one of its type; and an abortion keeps it so.
-use Rattle.std.proofs.Common.{◌≡◌, refl, sym, ap, ◌∙◌, subst, ◌≤◌, ℕ, suc, ℤ, pos, Bool, true, false, not, if◌then◌else◌, ◌==◌, ◌||◌, inl, inr, List, [], ◌∷◌, Option, Some, None, Ok, Err, arith, eqb-true}
+use Rattle.std.proofs.Common.{◌≡◌, refl, sym, ap, ◌∙◌, subst, ◌≤◌, ℕ, ℤ, pos, Bool, true, false, not, if◌then◌else◌, ◌==◌, ◌||◌, inl, inr, List, [], ◌∷◌, Option, Some, None, Ok, Err, arith, eqb-true}
 use Rattle.std.proofs.lemmas.Bool.{and_parts, false≢true}
 use Rattle.ceu_base.specs.declared.kinds.Pos.{Pos}
 use Rattle.ceu_base.specs.declared.kinds.Fault.{Fault}
@@ -22,20 +22,15 @@ use Rattle.ceu_tree.specs.declared.kernel.KBlock.{KBlock, out-KBlock}
 use Rattle.ceu_tree.specs.declared.kernel.KStmt as kernel
 use Rattle.ceu_tree.specs.declared.kernel.KStmt.{KStmt, Assign, Out, out-KStmt}
 use Rattle.ceu_tree.specs.declared.kernel.KStmt.TheOpen.{KStmt-F}
-use Rattle.ceu_tree.specs.Residual.{Body, Program, Awaited, Spawned, same_body, Act, Start, Residual, Branches, Instances}
+use Rattle.ceu_tree.specs.Residual.{Body, Awaited, Spawned, same_body, Residual, Branches, Instances}
 use Rattle.ceu_tree.specs.World.{Cell, Holds, NotSet, Names, Held, World, marked, is_at, look, assign, place_of, forget, forget_declared, forget_body, dead}
 use Rattle.ceu_tree.specs.Expressions.{Answer, number_in, value_of, value_if}
 use Rattle.ceu_tree.specs.Typing.{same_ty, holds_all, node_typed, operand_typed, operand_open, operand_ty, fits1, fits2, is_open, typed, wanted}
 use Rattle.ceu_tree.specs.Abort.{or_fault, simple, unless_fault, all_simple, finalizer_list, runs_one, finalized, forget_turns, forget_loop, aborted, branches_aborted, instances_aborted}
-use Rattle.ceu_tree.specs.Leaf.{Layer}
-use Rattle.ceu_tree.specs.Focus.{Focus, leaf, body_of}
 use Rattle.ceu_tree.specs.Proper.{SlotKind, IsVariable, IsLoopVariable, IsPool, IsAlias, Seen, Scope, find, pools_seen, slot_kind, declared_seen, variable_ty, has_ty, is_in_code, reads, asks, takes, gives, in_finalizer, stmt_ok, is_proper}
-use Rattle.ceu_legal.specs.Shape.{Part, block_scope, program_part, ActFits, starts, TurnFits, Fits, to_begin, to_turn, in_list, to_finish, at_input, at_time, at_event, at_forever, at_async, in_part, in_turn, in_call, in_par, EachFits, no_more, an_ended, a_branch, AllFit, none_lives, one_lives}
+use Rattle.ceu_legal.specs.Shape.{Part, block_scope, Fits, to_begin, to_turn, in_list, to_finish, at_input, at_time, at_event, at_forever, at_async, in_part, in_turn, in_call, in_par, EachFits, no_more, an_ended, a_branch, AllFit, none_lives, one_lives}
 use Rattle.ceu_legal.proofs.Static.{nodes_fine, each_fine, names_of, code_static}
 use Rattle.ceu_legal.proofs.UpFits.{Sound, layer_of, list_sound, part_sound}
-use Rattle.ceu_legal.proofs.StepFits.{around_sound}
-use Rattle.ceu_legal.proofs.RunFits.{root_sound}
-use denote.Hole.Carrier
 use Rattle.ceu_results.specs.Results.{NodeReads, OperandReads, IsResult}
 use Rattle.ceu_results.proofs.Operators.{same_is, held_value}
 use Rattle.ceu_results.proofs.Results.{results_are_values}
@@ -46,7 +41,7 @@ use Rattle.ceu_held.proofs.Values.{held, Lie, held_at, lie_filter, lie_put}
 use Rattle.ceu_held.proofs.Aborts.{LieIn, registered_fine}
 use Rattle.ceu_held.proofs.Writes.{finalizer_fine}
 use Rattle.ceu_held.proofs.Rows.{Incl, incl_left, incl_right, blocks_all_rows, kind_of_row}
-use Rattle.ceu_held.proofs.Known.{row, KnownSeen, Known, decls_known, block_known, list_known, parts_known, part_known, turn_known, async_known, code_known, program_known, around_known}
+use Rattle.ceu_held.proofs.Known.{row, KnownSeen, Known, decls_known, block_known, list_known, parts_known, part_known, turn_known, async_known, code_known, program_known}
 
 -- 0 is a value of every type
 pub zero_value : (t : Ty) → IsValue t (pos 0)
@@ -93,11 +88,13 @@ module _ (K : Kernel) (proper : is_proper K ≡ true) where
   kind_ty ps qs (kind.Alias c) = refl
   kind_ty ps qs (kind.Pool n c) = refl
 
-  declared_ty : (ps qs : List ℕ) (ds : List KDecl) (slot : ℕ) (t : Ty) → Incl (decl_rows qs ds) (rows K) → variable_ty (find slot (declared_seen ps ds [])) ≡ Some t → ty_at slot ≡ Some t
+  declared_ty : (ps qs : List ℕ) (ds : List KDecl) (slot : ℕ) (t : Ty) → Incl (decl_rows qs ds) (rows K)
+      → variable_ty (find slot (declared_seen ps ds [])) ≡ Some t → ty_at slot ≡ Some t
   declared_ty ps qs [] slot t i e = absurd (cc)
   declared_ty ps qs (d ∷ ds) slot t i e = go (d.slot == slot) refl e (declared_ty ps qs ds slot t (λ r m. i r (inr m)))
     where
-      go : (b : Bool) → (d.slot == slot) ≡ b → variable_ty (if b then Some (slot_kind ps d.kind) else find slot (declared_seen ps ds [])) ≡ Some t → (variable_ty (find slot (declared_seen ps ds [])) ≡ Some t → ty_at slot ≡ Some t) → ty_at slot ≡ Some t
+      go : (b : Bool) → (d.slot == slot) ≡ b → variable_ty (if b then Some (slot_kind ps d.kind) else find slot (declared_seen ps ds [])) ≡ Some t
+          → (variable_ty (find slot (declared_seen ps ds [])) ≡ Some t → ty_at slot ≡ Some t) → ty_at slot ≡ Some t
       go true q z ih =
           subst (λ j. ty_at j ≡ Some t) (eqb-true d.slot slot q) (ap variable_ty (kind_of_row K proper (row d.slot (slot_kind qs d.kind)) (i (row d.slot (slot_kind qs d.kind)) (inl refl))) ∙ kind_ty qs ps d.kind ∙ z)
       go false q z ih = ih z
@@ -105,11 +102,14 @@ module _ (K : Kernel) (proper : is_proper K ≡ true) where
   pub loc_ty : (sc : Scope) (l : Loc) → KnownSeen K proper sc.seen → reads K sc l ≡ true → ty_at l.slot ≡ Some l.ty
   loc_ty sc l k h = go l.outer h
     where
-      code : (b : Bool) → has_ty (variable_ty (if b then find l.slot (declared_seen [] (out-KBlock K.body).decls []) else None)) l.ty ≡ true → ty_at l.slot ≡ Some l.ty
+      code : (b : Bool) → has_ty (variable_ty (if b then find l.slot (declared_seen [] (out-KBlock K.body).decls []) else None)) l.ty ≡ true
+          → ty_at l.slot ≡ Some l.ty
       code true e = declared_ty [] (inner_pools [] (out-KBlock K.body).decls) (out-KBlock K.body).decls l.slot l.ty (decls_known K proper [] K.body (program_known K proper).0) (ty_is _ l.ty e)
       code false e = absurd (false≢true e)
 
-      go : (b : Bool) → has_ty (variable_ty (if b then (if is_in_code sc.code then find l.slot (declared_seen [] (out-KBlock K.body).decls []) else None) else find l.slot sc.seen)) l.ty ≡ true → ty_at l.slot ≡ Some l.ty
+      go : (b : Bool)
+          → has_ty (variable_ty (if b then (if is_in_code sc.code then find l.slot (declared_seen [] (out-KBlock K.body).decls []) else None) else find l.slot sc.seen)) l.ty ≡ true
+          → ty_at l.slot ≡ Some l.ty
       go true e = code (is_in_code sc.code) e
       go false e = seen_ty sc.seen l.slot l.ty k (ty_is _ l.ty e)
 
@@ -137,7 +137,8 @@ module _ (K : Kernel) (proper : is_proper K ≡ true) where
       passed true n = refl
       passed false n = absurd (omega (arith, n))
 
-      go : (b : Bool) → is_at body slot h ≡ b → (if b then Some h.cell else look body slot hs) ≡ Some c → (look body slot hs ≡ Some c → cell_typed (kind_at slot (rows K)) c ≡ true) → cell_typed (kind_at slot (rows K)) c ≡ true
+      go : (b : Bool) → is_at body slot h ≡ b → (if b then Some h.cell else look body slot hs) ≡ Some c
+          → (look body slot hs ≡ Some c → cell_typed (kind_at slot (rows K)) c ≡ true) → cell_typed (kind_at slot (rows K)) c ≡ true
       go true q z ih = subst (λ x. is_typed K x ≡ true) (sym (held_at body slot h.cell h q) ∙ ap (held body slot) (some_is h.cell c z)) (passed (is_typed K h) l.0)
       go false q z ih = ih z
 
@@ -154,7 +155,7 @@ module _ (K : Kernel) (proper : is_proper K ≡ true) where
     mutual
       unfolding node_typed NodeReads
 
-      node_reads : (e : KExpNode) (t : Ty) → node_typed (reads K sc) (asks K sc) e t ≡ true → NodeReads body w e
+      pub node_reads : (e : KExpNode) (t : Ty) → node_typed (reads K sc) (asks K sc) e t ≡ true → NodeReads body w e
       node_reads (Const v) t h = tt
       node_reads (Read x) t h = number_value x.slot (place_of x body) x.ty w (loc_ty sc x known (and_parts (same_ty x.ty t) (reads K sc x) h).1) l
       node_reads (Alive c) t h = tt
@@ -175,7 +176,8 @@ module _ (K : Kernel) (proper : is_proper K ≡ true) where
         let b = and_parts (typed (reads K sc) (asks K sc) e) (holds_all t e.ty) a in
         held_value t e.ty v b.1 (subst (IsResult e.ty) q (results_are_values (reads K sc) (asks K sc) body w e b.0 (node_reads e.node e.ty b.0)))
 
-  pub assign_typed : (sc : Scope) (l : Loc) (v : ℤ) (body : Body) (w : World) → KnownSeen K proper sc.seen → reads K sc l ≡ true → IsValue l.ty v → AllTyped w → AllTyped (assign body l v w)
+  pub assign_typed : (sc : Scope) (l : Loc) (v : ℤ) (body : Body) (w : World) → KnownSeen K proper sc.seen → reads K sc l ≡ true → IsValue l.ty v → AllTyped w
+      → AllTyped (assign body l v w)
   assign_typed sc l v body w k r i x =
       lie_put typed_count (place_of l body) l.slot (Holds v) w.values (let a = ap once (value_cell (kind_at l.slot (rows K)) l.ty v (loc_ty sc l k r) i) in omega (arith, a)) x
 
@@ -248,7 +250,8 @@ module _ (K : Kernel) (proper : is_proper K ≡ true) where
   mutual
     unfolding aborted
 
-    pub aborted_typed : {t : ℕ} {d : Part} {r : Residual} → Fits K t d r → Sound K proper d → Known K proper d → (body : Body) (w : World) → AllTyped w → AllTyped (aborted r body w)
+    pub aborted_typed : {t : ℕ} {d : Part} {r : Residual} → Fits K t d r → Sound K proper d → Known K proper d → (body : Body) (w : World) → AllTyped w
+        → AllTyped (aborted r body w)
     aborted_typed (to_begin n) h i body w x = x
     aborted_typed (to_turn n p) h i body w x = x
     aborted_typed (in_list {turn = turn} {sc = sc} {b = b} {fin = fin} {rest = rest} {all = all} {r = r} {s = s} done e f fit more) h i body w x =
@@ -272,7 +275,8 @@ module _ (K : Kernel) (proper : is_proper K ≡ true) where
     aborted_typed (in_par {sc = sc} {s = s} k slot bs e q more) h i body w x =
         each_typed more (layer_of K proper sc s (KStmt-F.Par k slot bs) e h).1 (parts_known K proper (pools_seen sc.seen) s (KStmt-F.Par k slot bs) e i.0) i.1 body w x
 
-    each_typed : {t : ℕ} {sc : Scope} {k : ParKind} {bs : List KBlock} {rs : Branches} → EachFits K t sc k bs rs → each_fine K (names_of K) sc bs → Incl (blocks_all_rows (pools_seen sc.seen) bs) (rows K) → KnownSeen K proper sc.seen
+    each_typed : {t : ℕ} {sc : Scope} {k : ParKind} {bs : List KBlock} {rs : Branches} → EachFits K t sc k bs rs → each_fine K (names_of K) sc bs
+        → Incl (blocks_all_rows (pools_seen sc.seen) bs) (rows K) → KnownSeen K proper sc.seen
         → (body : Body) (w : World) → AllTyped w → AllTyped (branches_aborted rs body w)
     each_typed no_more h i j body w x = x
     each_typed {sc = sc} (an_ended {b = b} {bs = bs} m rest) h i j body w x = each_typed rest h.1 (incl_right (block_rows (pools_seen sc.seen) b) (blocks_all_rows (pools_seen sc.seen) bs) (rows K) i) j body w x
@@ -285,21 +289,3 @@ module _ (K : Kernel) (proper : is_proper K ≡ true) where
     all_typed_kept (one_lives {seat = seat} {r = r} {more = more} k p e fit rest) w x =
         let w1 = instances_aborted more w in
         dead_typed seat.number (aborted r (Spawned seat.number) w1) (aborted_typed fit (code_static K seat.code k proper e) (code_known K proper seat.code k e) (Spawned seat.number) w1 (all_typed_kept rest w x))
-
-  -- ---- an assignment
-
-  abbrev layer_gives : Scope → Layer → Type 0
-  layer_gives sc (KStmt-F.Assign l e) = gives K sc l.ty e ≡ true
-  layer_gives sc layer = Unit {0}
-
-  stmt_gives : (sc : Scope) (n : ℕ) (st : KStmt) → stmt_ok K (names_of K) sc n st ≡ true → layer_gives sc (out-KStmt st)
-  unfolding stmt_ok out-KStmt Carrier.out
-  stmt_gives sc n (Assign l e) h = (and_parts (takes K sc l.ty l) (gives K sc l.ty e) h).1
-  stmt_gives sc n st h = tt
-
-  start_value : (d : Part) (s : KNode) (l : Loc) (e : KExp) (body : Body) (w : World) (v : ℤ) → ActFits d (Start s) → Sound K proper d → Known K proper d → out-KStmt s.stmt ≡ KStmt-F.Assign l e → AllTyped w → value_of e body w ≡ Ok v → IsValue l.ty v
-  start_value d s l e body w v (starts {sc = sc}) h i q x z = given_value sc i.1 body w x l.ty e v (subst (layer_gives sc) q (stmt_gives sc s.node s.stmt h)) z
-
-  pub assigned_value : (n : ℕ) (f : Focus Act) (w : World) (s : KNode) (l : Loc) (e : KExp) (v : ℤ) → TurnFits K (suc n) (program_part K) f → leaf f ≡ Start s → out-KStmt s.stmt ≡ KStmt-F.Assign l e → AllTyped w → value_of e (body_of f Program) w ≡ Ok v → IsValue l.ty v
-  assigned_value n f w s l e v t q a x z =
-      start_value t.part s l e (body_of f Program) w v (subst (ActFits t.part) q t.acts) (around_sound K proper t.around (root_sound K proper)) (around_known K proper t.around (program_known K proper)) a x z

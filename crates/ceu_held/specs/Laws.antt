@@ -1,17 +1,12 @@
 -- The laws on the values that the configurations of a proper kernel hold.
-use Rattle.std.specs.Prelude.{◌≡◌, ℕ, suc, ℤ, true, List, [], Ok}
+use Rattle.std.specs.Prelude.{◌≡◌, ℕ, suc, true, List, []}
 use Rattle.std.specs.List.{list_all}
 use Rattle.ceu_tree.specs.declared.command.Command.{Command}
 use Rattle.ceu_tree.specs.declared.kernel.Kernel.{Kernel}
-use Rattle.ceu_base.specs.Values.{IsValue}
-use Rattle.ceu_tree.specs.declared.kernel.Loc.{Loc}
-use Rattle.ceu_tree.specs.declared.kernel.KExp.{KExp}
 use Rattle.ceu_tree.specs.declared.kernel.KNode.{KNode}
 use Rattle.ceu_tree.specs.declared.kernel.KStmt.{out-KStmt}
-use Rattle.ceu_tree.specs.declared.kernel.KStmt.TheOpen.{KStmt-F}
 use Rattle.ceu_tree.specs.Residual.{Program, Act, Start, Residual}
 use Rattle.ceu_tree.specs.Focus.{Focus, leaf, body_of}
-use Rattle.ceu_tree.specs.Expressions.{value_of}
 use Rattle.ceu_tree.specs.Abort.{aborted}
 use Rattle.ceu_tree.specs.World.{World}
 use Rattle.ceu_tree.specs.Proper.{Proper}
@@ -22,7 +17,7 @@ use Rattle.ceu_living.specs.Instances.{InstancesStand}
 use Rattle.ceu_held.specs.Held.{ValuesLie}
 use Rattle.ceu_held.specs.Kinds.{kinds_fit}
 use Rattle.ceu_held.specs.Names.{names_agree, NamesHold}
-use Rattle.ceu_held.specs.Typed.{all_typed}
+use Rattle.ceu_held.specs.Typed.{all_typed, start_typed}
 
 abbrev pub BootHeld : Type 0
 BootHeld = (K : Kernel) → ValuesLie K (booted K)
@@ -66,11 +61,9 @@ RunNames = (K : Kernel) (n : ℕ) (xs : List Command) → Proper K → NamesHold
 
 -- ---- types, where each variable that holds a value holds one of its type
 
--- An assignment gives its variable a value of its type.
-abbrev pub AssignTyped : Type 0
-AssignTyped =
-    (K : Kernel) (n : ℕ) (f : Focus Act) (w : World) (s : KNode) (l : Loc) (e : KExp) (v : ℤ) → Proper K → TurnFits K (suc n) (program_part K) f → leaf f ≡ Start s → out-KStmt s.stmt ≡ KStmt-F.Assign l e → all_typed K w
-    → value_of e (body_of f Program) w ≡ Ok v → IsValue l.ty v
+-- A statement that starts evaluates each of its expressions to a value of the type that its place wants.
+abbrev pub StartTyped : Type 0
+StartTyped = (K : Kernel) (n : ℕ) (f : Focus Act) (w : World) (s : KNode) → Proper K → TurnFits K (suc n) (program_part K) f → leaf f ≡ Start s → all_typed K w → start_typed K (body_of f Program) w (out-KStmt s.stmt)
 
 -- An abortion of the program keeps it so: what its finalizers assign is of the types of their variables.
 abbrev pub AbortTyped : Type 0

@@ -6,7 +6,6 @@
 
 ghost use Rattle.ceu_held.specs.Laws.{
   AbortTyped,
-  AssignTyped,
   BootHeld,
   BootNames,
   CommandHeld,
@@ -19,6 +18,7 @@ ghost use Rattle.ceu_held.specs.Laws.{
   RunSlotKinds,
   RunSlotsLegal,
   SlotKinds,
+  StartTyped,
   StepHeld,
   StepNames,
 };
@@ -84,9 +84,10 @@ pub fn run_names()
     ensures { RunNames }
 {}
 
-/// Where each variable that holds a value holds one of its type, an assignment gives its variable a value of its type,
-pub fn assign_typed()
-    ensures { AssignTyped }
+/// Where each variable that holds a value holds one of its type, a statement that starts evaluates each of its expressions to a value of the type that its
+/// place wants,
+pub fn start_typed()
+    ensures { StartTyped }
 {}
 
 /// and an abortion of the program keeps it so, with all that its finalizers assign.
