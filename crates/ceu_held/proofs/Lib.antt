@@ -25,4 +25,5 @@ pub mod NameRuns
 pub mod NameCommands
 pub mod Typing
 pub mod Starts
+pub mod Aims
 pub mod Runs

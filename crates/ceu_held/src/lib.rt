@@ -1,7 +1,7 @@
 //! Laws of the reference semantics on the values that open bodies hold, each the contract of a function with an empty body.
 //!
 //! In each configuration of a run of a proper kernel every value lies in a slot that is open, and is of that slot's kind; an
-//! alias that names an instance that lives names one that it may name.
+//! alias that names an instance that lives names one that it may name. Where each variable holds a value of its type, expressions give values of theirs.
 #![tactic(auto)]
 
 ghost use Rattle.ceu_held.specs.Laws.{
@@ -10,6 +10,7 @@ ghost use Rattle.ceu_held.specs.Laws.{
   BootNames,
   CommandHeld,
   CommandNames,
+  NoneToParts,
   ReactionHeld,
   ReactionNames,
   RunHeld,
@@ -93,6 +94,11 @@ pub fn start_typed()
 /// and an abortion of the program keeps it so, with all that its finalizers assign.
 pub fn abort_typed()
     ensures { AbortTyped }
+{}
+
+/// No exit leads to the block of a part of a do or of an if, so that such a block ends with 0.
+pub fn none_to_parts()
+    ensures { NoneToParts }
 {}
 
 /// Where such a run waits, each value is of an open slot, as a legal configuration has it.
