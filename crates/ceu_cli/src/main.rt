@@ -47,5 +47,13 @@ fn with_words(rt: &HostRuntime, words: &[String]) -> Status {
     let mut shelf = FileShelf::new(rt);
     let mut input = InputSource::new(rt.stdin());
     let mut output = OutputSink::new(rt.stdout());
-    ceu(rt.alloc(), words, &mut shelf, &mut input, &mut output)
+    let mut left = None;
+    ceu(
+        rt.alloc(),
+        words,
+        &mut shelf,
+        &mut input,
+        &mut output,
+        &mut left,
+    )
 }

@@ -26,8 +26,8 @@ use Rattle.ceu_script.specs.Commands as script
 use Rattle.ceu_script.specs.Shapes.{type_at}
 use Rattle.ceu_shape.specs.Plans.{Plan}
 use Rattle.ceu_shape.specs.Shape.{shape}
+use Rattle.ceu_simulates.proofs.Steps.{steps_are_done}
 use Rattle.ceu_trail.specs.Compiled.{Compiled}
-use Rattle.ceu_trail.specs.Laws.{StepsAreDone}
 use Rattle.ceu_tree.specs.declared.command.Command.{Command}
 use Rattle.ceu_tree.specs.declared.command.Command.TheVariants.{Input, Advance, Idle}
 use Rattle.ceu_tree.specs.declared.kernel.Kernel.{Kernel}
@@ -71,8 +71,8 @@ takes s inputs event v h is =
 -- ---- what it comes to
 
 -- a compiled image does nothing that isn't allowed
-pub compiled_is_sound : (image : Image) (K : Kernel) → StepsAreDone → IsCompiled image K → IsSound image
-compiled_is_sound image K steps_done c = image_is_sound image c.plan c.width K c.compiled c.ends steps_done
+pub compiled_is_sound : (image : Image) (K : Kernel) → IsCompiled image K → IsSound image
+compiled_is_sound image K c = image_is_sound image c.plan c.width K c.compiled c.ends steps_are_done
 
 module _ (image : Image) (P : Plan) (width : ℕ → ℕ) (K : Kernel) (before : List Mark) where
   follows_input : (event : ℕ) (v : ℤ) (c : Config) (d : machine.Config) → Follows image P width K before [] (λ n. run.done K n (Input event v) c) (commands.done image (Input event v) d)
@@ -91,36 +91,36 @@ module _ (image : Image) (P : Plan) (width : ℕ → ℕ) (K : Kernel) (before :
   follows_idle c d f = f
 
 -- the session after a command
-kept : (old new : Seen) (K : Kernel) (r : Result After Failed) → new.image ≡ old.image → new.state ≡ state_after r → StepsAreDone → (c : IsCompiled old.image K)
+kept : (old new : Seen) (K : Kernel) (r : Result After Failed) → new.image ≡ old.image → new.state ≡ state_after r → (c : IsCompiled old.image K)
     → (b : Config) → Agrees old.image c.plan c.width K b (config_of (state_after r) new.bytes) → Stands new K b
-kept old new K r same state_is steps_done c b agrees =
+kept old new K r same state_is c b agrees =
     subst (λ (i : Image). StandsAt i new.state new.bytes K b) (sym same)
-    (subst (λ (s : State). StandsAt old.image s new.bytes K b) (sym state_is) (record { steps = steps_done; compiled = c; agrees = agrees }))
+    (subst (λ (s : State). StandsAt old.image s new.bytes K b) (sym state_is) (record { compiled = c; agrees = agrees }))
 
 module _ {W : Type 0} (notes stops : W → Mark → W → Type 0) (old new : Seen) (out now : W) (r : Result After Failed) (same : new.image ≡ old.image) (state_is : new.state ≡ state_after r) where
   -- what the machine comes to is what was answered and noted
   abbrev pub Answers : machine.Config → Type 0
   Answers d = IfOk r (λ a. Came d a new.bytes) × OnOk r (Noted notes (marks_of d) out now) × OnErr r (Stopped notes stops (marks_of d) out now)
 
-  comes : (K : Kernel) (later : ℕ → Config) (before : List Mark) (d : machine.Config) (steps_done : StepsAreDone) (c : IsCompiled old.image K)
+  comes : (K : Kernel) (later : ℕ → Config) (before : List Mark) (d : machine.Config) (c : IsCompiled old.image K)
       → Follows old.image c.plan c.width K before [] later d → Answers d → Reaction notes stops (Stands new K) later before out now (answered r)
-  comes K later before d steps_done c f a = reaction old.image c.plan c.width K notes stops (Stands new K) later before out now d new.bytes r f a.0 a.1 a.2 (kept old new K r same state_is steps_done c)
+  comes K later before d c f a = reaction old.image c.plan c.width K notes stops (Stands new K) later before out now d new.bytes r f a.0 a.1 a.2 (kept old new K r same state_is c)
 
   pub boot_comes : Answers (booted old.image (plain old.bytes)) → (K : Kernel) → IsFresh old K
       → Reaction notes stops (Stands new K) (λ n. steps K n (run.booted K)) [] out now (answered r)
-  boot_comes a K fresh = comes K (λ n. steps K n (run.booted K)) [] (booted old.image (plain old.bytes)) fresh.steps fresh.compiled
+  boot_comes a K fresh = comes K (λ n. steps K n (run.booted K)) [] (booted old.image (plain old.bytes)) fresh.compiled
       (subst (λ (bs : List ℕ). Follows old.image fresh.compiled.plan fresh.compiled.width K [] [] (λ n. steps K n (run.booted K)) (booted old.image (plain bs))) (sym fresh.blank)
-      (boot_follows old.image fresh.compiled.plan fresh.compiled.width K fresh.compiled.compiled fresh.compiled.ends fresh.steps)) a
+      (boot_follows old.image fresh.compiled.plan fresh.compiled.width K fresh.compiled.compiled fresh.compiled.ends steps_are_done)) a
 
   -- a command from where the session waits
   follows : (x : Command) → IsCommand old.image x → old.state ≡ state.Waiting → (K : Kernel) (b : Config) → (h : Stands old K b)
       → Follows old.image h.compiled.plan h.compiled.width K (world_of b).marks [] (λ n. run.done K n x b) (commands.done old.image x (machine.Waits (plain old.bytes)))
-  follows x is waiting K b h = command_follows old.image h.compiled.plan h.compiled.width K h.compiled.compiled h.compiled.ends h.steps x b (machine.Waits (plain old.bytes)) is
+  follows x is waiting K b h = command_follows old.image h.compiled.plan h.compiled.width K h.compiled.compiled h.compiled.ends steps_are_done x b (machine.Waits (plain old.bytes)) is
       (subst (λ (s : State). Agrees old.image h.compiled.plan h.compiled.width K b (config_of s old.bytes)) waiting h.agrees)
 
   input_comes : (event : ℕ) (v : ℤ) → Answers (input_done old.image event v (machine.Waits (plain old.bytes))) → IsCommand old.image (Input event v) → old.state ≡ state.Waiting
       → (K : Kernel) (b : Config) → Stands old K b → Reaction notes stops (Stands new K) (λ n. run.input K n event v b) (world_of b).marks out now (answered r)
-  input_comes event v a is waiting K b h = comes K (λ n. run.input K n event v b) (world_of b).marks (input_done old.image event v (machine.Waits (plain old.bytes))) h.steps h.compiled
+  input_comes event v a is waiting K b h = comes K (λ n. run.input K n event v b) (world_of b).marks (input_done old.image event v (machine.Waits (plain old.bytes))) h.compiled
       (follows_input old.image h.compiled.plan h.compiled.width K (world_of b).marks event v b (machine.Waits (plain old.bytes)) (follows (Input event v) is waiting K b h)) a
 
   -- the same with the value as the machine's code has it
@@ -130,10 +130,10 @@ module _ {W : Type 0} (notes stops : W → Mark → W → Type 0) (old new : See
 
   pub advance_comes : (us : ℕ) → Answers (advanced old.image (us + 1) us (machine.Waits (plain old.bytes))) → us < 2 ^ 63 → old.state ≡ state.Waiting
       → (K : Kernel) (b : Config) → Stands old K b → Reaction notes stops (Stands new K) (λ n. run.done K n (Advance us) b) (world_of b).marks out now (answered r)
-  advance_comes us a is waiting K b h = comes K (λ n. run.done K n (Advance us) b) (world_of b).marks (advanced old.image (us + 1) us (machine.Waits (plain old.bytes))) h.steps h.compiled
+  advance_comes us a is waiting K b h = comes K (λ n. run.done K n (Advance us) b) (world_of b).marks (advanced old.image (us + 1) us (machine.Waits (plain old.bytes))) h.compiled
       (follows_advance old.image h.compiled.plan h.compiled.width K (world_of b).marks us b (machine.Waits (plain old.bytes)) (follows (Advance us) is waiting K b h)) a
 
   pub idle_comes : Answers (idle_turn old.image (machine.Waits (plain old.bytes))) → old.state ≡ state.Waiting
       → (K : Kernel) (b : Config) → Stands old K b → Reaction notes stops (Stands new K) (λ n. run.idle_turn K n b) (world_of b).marks out now (answered r)
-  idle_comes a waiting K b h = comes K (λ n. run.idle_turn K n b) (world_of b).marks (idle_turn old.image (machine.Waits (plain old.bytes))) h.steps h.compiled
+  idle_comes a waiting K b h = comes K (λ n. run.idle_turn K n b) (world_of b).marks (idle_turn old.image (machine.Waits (plain old.bytes))) h.compiled
       (follows_idle old.image h.compiled.plan h.compiled.width K (world_of b).marks b (machine.Waits (plain old.bytes)) (follows (Idle 1) (omega arith, omega arith) waiting K b h)) a

@@ -1,3 +1,4 @@
 pub mod Noting
 pub mod Agreeing
 pub mod Commands
+pub mod Ran

@@ -16,7 +16,6 @@ use Rattle.ceu_react.specs.declared.after.State.{State}
 use Rattle.ceu_react.specs.declared.after.State.TheVariants.{Fresh, Waiting, Ended, Faulted, Broken}
 use Rattle.ceu_shape.specs.Plans.{Plan}
 use Rattle.ceu_trail.specs.Compiled.{Compiled}
-use Rattle.ceu_trail.specs.Laws.{StepsAreDone}
 use Rattle.ceu_tree.specs.declared.kernel.Kernel.{Kernel}
 use Rattle.ceu_tree.specs.Run.{Config}
 
@@ -45,17 +44,14 @@ config_of (Faulted fault place) bytes = machine.HasFaulted fault place (plain by
 config_of Fresh bytes = machine.Lost
 config_of Broken bytes = machine.Lost
 
--- The session runs the program of the kernel, and wasn't booted yet. That a step of a turn does on the machine what it does by the reference semantics
--- is a premise.
+-- The session runs the program of the kernel, and wasn't booted yet.
 pub record IsFresh (s : Seen) (K : Kernel) : Type 0 where
-  pub steps : StepsAreDone
   pub compiled : IsCompiled s.image K
   pub blank : s.bytes ≡ replicate (end_of s.image) 0
   pub state_is : s.state ≡ Fresh
 
 -- It runs the program of the kernel, and agrees with this configuration of the reference semantics.
 pub record StandsAt (image : Image) (state : State) (bytes : List ℕ) (K : Kernel) (c : Config) : Type 0 where
-  pub steps : StepsAreDone
   pub compiled : IsCompiled image K
   pub agrees : Agrees image compiled.plan compiled.width K c (config_of state bytes)
 

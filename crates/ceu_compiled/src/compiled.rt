@@ -31,13 +31,13 @@ impl Compiled {
     ghost use Rattle.std.specs.Prelude.{◌≡◌, IfOk, IfErr};
     ghost use Rattle.ceu_isa.specs.Safety.{IsSound};
     ghost use Rattle.ceu_tree.specs.declared.kernel.Kernel.{Kernel};
-    ghost use Rattle.ceu_trail.specs.Laws.{StepsAreDone};
     ghost use Rattle.ceu_compiled.specs.Standing.{IsCompiled, IsFresh};
 
     /// Takes the memory for an image, with each byte zero. Where the image is a kernel's, it stands for a program of that kernel that wasn't booted.
     pub fn new(alloc: Global, image: Image) -> Result<Compiled, NewError>
         requires { IsSound image }
-        ensures fresh { IfOk result (λ s. (K : Kernel) → StepsAreDone → IsCompiled image K → IsFresh s.session K) }
+        ensures fresh { IfOk result (λ s. (K : Kernel) → IsCompiled image K → IsFresh s.session K) }
+        ensures image { IfOk result (λ s. s.session.image ≡ image) }
         ensures err { IfErr result (λ e. e ≡ NewError.Memory image) }
     {
         match Session::new(alloc, image) {
@@ -45,14 +45,31 @@ impl Compiled {
             Err(e) => Err(e),
         }
     }
+
+    /// The session that runs it.
+    pub fn into_session(self) -> Session
+        ensures { result ≡ self.session }
+    {
+        self.session
+    }
 }
 
 impl Reactor for Compiled {
+    ghost use Rattle.ceu_compiled.specs.Ran.{RanTo};
+    ghost use Rattle.ceu_compiled.specs.RanLaws.{none_ran, turns_ran, over_ran};
     ghost use Rattle.ceu_compiled.specs.Standing.{IsFresh, Stands};
 
     ghost fresh = { λ s K. IsFresh s.session K };
 
     ghost stands = { λ s K c. Stands s.session K c };
+
+    ghost ran = { λ start xs s. RanTo start.session s.session xs };
+
+    ghost no_turns = { λ start s. none_ran start.session s.session };
+
+    ghost more_turns = { λ start s. turns_ran start.session s.session };
+
+    ghost over = { λ K c start s. over_ran K c start.session s.session };
 
     fn boot<W: MarkSink>(&mut self, out: &mut W) -> Result<After, Failed> {
         let came = self.session.boot(out);

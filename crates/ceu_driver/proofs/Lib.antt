@@ -6,6 +6,8 @@ pub mod Settled
 pub mod Idling
 pub mod Commanding
 pub mod Scripting
+pub mod Doing
 pub mod Following
 pub mod Looping
+pub mod ToldDone
 pub mod Finishing

@@ -20,10 +20,11 @@ use Rattle.ceu_driver.specs.declared.answers.Played.{Played}
 use Rattle.ceu_driver.specs.declared.answers.Played.TheVariants.{Done, Script as BadScript}
 use Rattle.ceu_driver.specs.declared.reactor.After.{After}
 use Rattle.ceu_driver.specs.declared.reactor.After.TheVariants as after
+use Rattle.ceu_driver.proofs.Doing.{Did, did_none}
 use Rattle.ceu_driver.proofs.Following.{Reached, reached_none, reached_more, reached_end, reached_break, reached_last, reached_bad, reached_cut}
 use Rattle.ceu_driver.proofs.Settled.{not_waiting_settled}
 
-where_told_both : {A : Type 0} (x y : Option A) (P Q R : A → A → Type 0) → ((a b : A) → P a b → Q a b → R a b) → WhereTold x y P → WhereTold x y Q → WhereTold x y R
+pub where_told_both : {A : Type 0} (x y : Option A) (P Q R : A → A → Type 0) → ((a b : A) → P a b → Q a b → R a b) → WhereTold x y P → WhereTold x y Q → WhereTold x y R
 where_told_both None y P Q R f p q = q
 where_told_both (Some a) None P Q R f p q = q
 where_told_both (Some a) (Some b) P Q R f p q = f a b p q
@@ -53,6 +54,10 @@ pub new_reached : (S : Config → Type 0) (K : Kernel) (c : Config) (all : Bool)
 new_reached S K c all outputs inputs r new x h here waits = where_told_same x (λ old now. Reached S K c all outputs (script inputs (script_of old)) (script inputs (ahead r now)) r.last.lines h h) (λ old.
     subst (λ (s : Script). Reached S K c all outputs (script inputs (script_of old)) (script inputs s) r.last.lines h h) (sym (new_ahead r new old))
     (subst (λ (q : Reader). Reached S K c all outputs (script inputs (script_of old)) (script inputs (script_of old)) q.last.lines h h) (sym new) (reached_none S K c all outputs (script inputs (script_of old)) h here waits)))
+
+pub new_did : (ran : List Command → Type 0) (xs : List Command) (inputs : List Port) (r : Reader) → IsNew r → (x : Option (List ℕ)) → ran xs → WhereTold x x (λ old now. Did ran xs (script inputs (script_of old)) (script inputs (ahead r now)))
+new_did ran xs inputs r new x did = where_told_same x (λ old now. Did ran xs (script inputs (script_of old)) (script inputs (ahead r now))) (λ old.
+    subst (λ (s : Script). Did ran xs (script inputs (script_of old)) (script inputs s)) (sym (new_ahead r new old)) (did_none ran xs (script inputs (script_of old)) did))
 
 -- ---- a call of the reader
 

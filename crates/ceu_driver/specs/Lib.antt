@@ -1,4 +1,5 @@
 pub mod Reactions
 pub mod Printing
+pub mod Doing
 pub mod Runs
 pub mod Stops

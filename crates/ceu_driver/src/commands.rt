@@ -1,12 +1,14 @@
 // One command, with the lines that it prints.
-ghost use Rattle.std.specs.Prelude.{◌≡◌, ◌<◌, [], List};
+ghost use Rattle.std.specs.Prelude.{◌≡◌, ◌<◌, ◌++◌, ◌∷◌, [], List, IfOk, OnOk};
 ghost use Rattle.ceu_base.specs.declared.kinds.Port.{Port};
 ghost use Rattle.ceu_io.specs.Counts.{HasCause};
 ghost use Rattle.ceu_script.specs.Commands.{IsCommand};
-ghost use Rattle.ceu_tree.specs.declared.command.Command.TheVariants.{Input, Advance};
+ghost use Rattle.ceu_tree.specs.declared.command.Command.{Command};
+ghost use Rattle.ceu_tree.specs.declared.command.Command.TheVariants.{Input, Advance, Idle};
 ghost use Rattle.ceu_tree.specs.declared.kernel.Kernel.{Kernel};
 ghost use Rattle.ceu_tree.specs.Run as run;
 ghost use Rattle.ceu_tree.specs.Run.{Config, Waits, status_of, world_of};
+ghost use Rattle.ceu_driver.specs.Doing.{HasDone};
 ghost use Rattle.ceu_driver.specs.Reactions.{IsWaiting, StillWaits};
 ghost use Rattle.ceu_driver.specs.Printing.{Prints, new_text, marks_text, command_text, turns_text};
 
@@ -21,6 +23,7 @@ pub(crate) fn boot<R: Reactor, O: Sink>(
 ) -> Result<After, Failed>
     requires { (K : Kernel) × R.fresh reactor.old K }
     ensures printed { (K : Kernel) → R.fresh reactor.old K → Prints (R.stands reactor.new K) (λ n. run.steps K n (run.booted K)) (λ n. marks_text marks.old.all marks.old.outputs.now (world_of (run.steps K n (run.booted K))).marks) (O.held marks.old.out.now) (O.held marks.new.out.now) result }
+    ensures ran { IfOk result (HasDone (λ xs. R.ran reactor.old xs reactor.new) []) }
     ensures kept { (marks.new.outputs.now ≡ marks.old.outputs.now) × (marks.new.all ≡ marks.old.all) × (marks.new.out.ghost_name ≡ marks.old.out.ghost_name) }
     ensures cause { HasCause (O.faults marks.old.out.now) (O.faults marks.new.out.now) result }
 {
@@ -35,6 +38,7 @@ fn input<R: Reactor, O: Sink>(
 ) -> Result<After, Failed>
     requires { (inputs : List Port) × IsWaiting (R.stands reactor.old) inputs × IsCommand inputs (Input event value) }
     ensures printed { (K : Kernel) (c : Config) → R.stands reactor.old K c → Prints (R.stands reactor.new K) (λ n. run.input K n event value c) (λ n. new_text marks.old.all marks.old.outputs.now (world_of c).marks (run.input K n event value c)) (O.held marks.old.out.now) (O.held marks.new.out.now) result }
+    ensures ran { (start : R) (xs : List Command) → R.ran start xs reactor.old → OnOk result (R.ran start (xs ++ Input event value ∷ []) reactor.new) }
     ensures kept { (marks.new.outputs.now ≡ marks.old.outputs.now) × (marks.new.all ≡ marks.old.all) × (marks.new.out.ghost_name ≡ marks.old.out.ghost_name) }
     ensures cause { HasCause (O.faults marks.old.out.now) (O.faults marks.new.out.now) result }
 {
@@ -49,6 +53,7 @@ fn advance<R: Reactor, O: Sink>(
     requires waits { (inputs : List Port) × IsWaiting (R.stands reactor.old) inputs }
     requires time { us < 9223372036854775808 }
     ensures printed { (K : Kernel) (c : Config) → R.stands reactor.old K c → Prints (R.stands reactor.new K) (λ n. run.done K n (Advance us) c) (λ n. new_text marks.old.all marks.old.outputs.now (world_of c).marks (run.done K n (Advance us) c)) (O.held marks.old.out.now) (O.held marks.new.out.now) result }
+    ensures ran { (start : R) (xs : List Command) → R.ran start xs reactor.old → OnOk result (R.ran start (xs ++ Advance us ∷ []) reactor.new) }
     ensures kept { (marks.new.outputs.now ≡ marks.old.outputs.now) × (marks.new.all ≡ marks.old.all) × (marks.new.out.ghost_name ≡ marks.old.out.ghost_name) }
     ensures cause { HasCause (O.faults marks.old.out.now) (O.faults marks.new.out.now) result }
 {
@@ -61,6 +66,7 @@ fn idle_turn<R: Reactor, O: Sink>(
 ) -> Result<After, Failed>
     requires { (inputs : List Port) × IsWaiting (R.stands reactor.old) inputs }
     ensures printed { (K : Kernel) (c : Config) → R.stands reactor.old K c → Prints (R.stands reactor.new K) (λ n. run.idle_turn K n c) (λ n. new_text marks.old.all marks.old.outputs.now (world_of c).marks (run.idle_turn K n c)) (O.held marks.old.out.now) (O.held marks.new.out.now) result }
+    ensures ran { (start : R) (xs : List Command) → R.ran start xs reactor.old → OnOk result (R.ran start (xs ++ Idle 1 ∷ []) reactor.new) }
     ensures kept { (marks.new.outputs.now ≡ marks.old.outputs.now) × (marks.new.all ≡ marks.old.all) × (marks.new.out.ghost_name ≡ marks.old.out.ghost_name) }
     ensures cause { HasCause (O.faults marks.old.out.now) (O.faults marks.new.out.now) result }
 {
@@ -74,6 +80,7 @@ fn idle<R: Reactor, O: Sink>(
 ) -> Result<After, Failed>
     requires { (inputs : List Port) × IsWaiting (R.stands reactor.old) inputs }
     ensures printed { (K : Kernel) (c : Config) → R.stands reactor.old K c → status_of c ≡ Waits → Prints (R.stands reactor.new K) (λ n. run.idle_turns K n turns c) (λ n. turns_text marks.old.all marks.old.outputs.now K n turns c) (O.held marks.old.out.now) (O.held marks.new.out.now) result }
+    ensures ran { (K : Kernel) (c : Config) (start : R) (xs : List Command) → R.stands reactor.old K c → status_of c ≡ Waits → R.ran start xs reactor.old → IfOk result (HasDone (λ ys. R.ran start ys reactor.new) (xs ++ Idle turns ∷ [])) }
     ensures kept { (marks.new.outputs.now ≡ marks.old.outputs.now) × (marks.new.all ≡ marks.old.all) × (marks.new.out.ghost_name ≡ marks.old.out.ghost_name) }
     ensures cause { HasCause (O.faults marks.old.out.now) (O.faults marks.new.out.now) result }
     ensures waits { StillWaits (R.stands reactor.old) (R.stands reactor.new) result }
@@ -94,6 +101,7 @@ pub(crate) fn command<R: Reactor, O: Sink>(
 ) -> Result<After, Failed>
     requires { (inputs : List Port) × IsWaiting (R.stands reactor.old) inputs × IsCommand inputs command }
     ensures printed { (K : Kernel) (c : Config) → R.stands reactor.old K c → status_of c ≡ Waits → Prints (R.stands reactor.new K) (λ n. run.done K n command c) (λ n. command_text marks.old.all marks.old.outputs.now K n command c) (O.held marks.old.out.now) (O.held marks.new.out.now) result }
+    ensures ran { (K : Kernel) (c : Config) (start : R) (xs : List Command) → R.stands reactor.old K c → status_of c ≡ Waits → R.ran start xs reactor.old → IfOk result (HasDone (λ ys. R.ran start ys reactor.new) (xs ++ command ∷ [])) }
     ensures kept { (marks.new.outputs.now ≡ marks.old.outputs.now) × (marks.new.all ≡ marks.old.all) × (marks.new.out.ghost_name ≡ marks.old.out.ghost_name) }
     ensures cause { HasCause (O.faults marks.old.out.now) (O.faults marks.new.out.now) result }
     ensures waits { StillWaits (R.stands reactor.old) (R.stands reactor.new) result }

@@ -1,9 +1,12 @@
 // The lines of a script, one by one.
-ghost use Rattle.std.specs.Prelude.{◌≡◌, ◌≤◌, length, true};
+ghost use Rattle.std.specs.Prelude.{◌≡◌, ◌≤◌, ◌++◌, List, length, true};
 ghost use Rattle.ceu_script.specs.Lines.{script};
 ghost use Rattle.ceu_io.specs.Told.{WhereTold};
+ghost use Rattle.ceu_tree.specs.declared.command.Command.{Command};
 ghost use Rattle.ceu_tree.specs.declared.kernel.Kernel.{Kernel};
 ghost use Rattle.ceu_tree.specs.Run.{Config, Waits, status_of};
+ghost use Rattle.ceu_driver.specs.Doing.{WhereStopped};
+ghost use Rattle.ceu_driver.specs.Printing.{commands_of};
 ghost use Rattle.ceu_driver.specs.Reactions.{IsWaiting};
 ghost use Rattle.ceu_driver.specs.Runs.{script_of};
 ghost use Rattle.ceu_driver.specs.Stops.{Stops, StopCause, Near};
@@ -34,6 +37,7 @@ pub(crate) fn follow<R: Reactor, I: Source, O: Sink>(
     requires waits { IsWaiting (R.stands reactor.old) inputs.now }
     requires inputs { length inputs.now ≤ 65535 }
     ensures told { (K : Kernel) (c : Config) → R.stands reactor.old K c → status_of c ≡ Waits → WhereTold (I.left source.old) (I.left source.new) (λ old new. Stops result K c marks.old.all marks.old.outputs.now (script inputs.now (script_of old)) (Near old (length new)) (O.held marks.old.out.now) (O.held marks.new.out.now)) }
+    ensures ran { (K : Kernel) (c : Config) (start : R) (xs : List Command) → R.stands reactor.old K c → status_of c ≡ Waits → R.ran start xs reactor.old → WhereTold (I.left source.old) (I.left source.new) (λ old new. WhereStopped result (R.ran start (xs ++ commands_of (script inputs.now (script_of old))) reactor.new)) }
     ensures kept { (marks.new.outputs.now ≡ marks.old.outputs.now) × (marks.new.all ≡ marks.old.all) × (marks.new.out.ghost_name ≡ marks.old.out.ghost_name) }
     ensures cause { StopCause result (I.faults source.old) (I.faults source.new) (O.faults marks.old.out.now) (O.faults marks.new.out.now) }
 {

@@ -1,12 +1,13 @@
 // What runs a program, command by command.
-ghost use Rattle.std.specs.Prelude.{◌<◌, ℕ, [], List};
+ghost use Rattle.std.specs.Prelude.{◌≡◌, ◌<◌, ◌+◌, ◌++◌, ◌∷◌, ℕ, [], List, OnOk};
 ghost use Rattle.ceu_base.specs.declared.kinds.Port.{Port};
 ghost use Rattle.ceu_io.specs.Counts.{HasCause};
 ghost use Rattle.ceu_script.specs.Commands.{IsCommand};
-ghost use Rattle.ceu_tree.specs.declared.command.Command.TheVariants.{Input, Advance};
+ghost use Rattle.ceu_tree.specs.declared.command.Command.{Command};
+ghost use Rattle.ceu_tree.specs.declared.command.Command.TheVariants.{Input, Advance, Idle};
 ghost use Rattle.ceu_tree.specs.declared.kernel.Kernel.{Kernel};
 ghost use Rattle.ceu_tree.specs.Run as run;
-ghost use Rattle.ceu_tree.specs.Run.{Config, world_of};
+ghost use Rattle.ceu_tree.specs.Run.{Config, Waits, status_of, world_of};
 ghost use Rattle.ceu_driver.specs.Reactions.{Reaction, IsWaiting};
 
 use ceu_base::{Fault, Pos};
@@ -28,16 +29,20 @@ pub trait Reactor {
     ghost fresh: { Self → Kernel → Type 0 };
     /// The program is that of this kernel, and it stands for this configuration.
     ghost stands: { Self → Kernel → Config → Type 0 };
+    /// The first, as it wasn't booted yet, was booted and did these commands in order: so came the second.
+    ghost ran: { Self → List Command → Self → Type 0 };
 
     fn boot<W: MarkSink>(&mut self, out: &mut W) -> Result<After, Failed>
         requires { (K : Kernel) × fresh self.old K }
         ensures reaction { (K : Kernel) → fresh self.old K → Reaction W.notes W.stops (stands self.new K) (λ n. run.steps K n (run.booted K)) [] out.old out.new result }
+        ensures ran { OnOk result (ran self.old [] self.new) }
         ensures cause { HasCause (W.faults out.old) (W.faults out.new) result };
 
     /// An input by its number, with a value of its type.
     fn input<W: MarkSink>(&mut self, event: u16, value: i128, out: &mut W) -> Result<After, Failed>
         requires { (inputs : List Port) × IsWaiting (stands self.old) inputs × IsCommand inputs (Input event value) }
         ensures reaction { (K : Kernel) (c : Config) → stands self.old K c → Reaction W.notes W.stops (stands self.new K) (λ n. run.input K n event value c) (world_of c).marks out.old out.new result }
+        ensures ran { (start : Self) (xs : List Command) → ran start xs self.old → OnOk result (ran start (xs ++ Input event value ∷ []) self.new) }
         ensures cause { HasCause (W.faults out.old) (W.faults out.new) result };
 
     /// So many microseconds.
@@ -45,11 +50,22 @@ pub trait Reactor {
         requires waits { (inputs : List Port) × IsWaiting (stands self.old) inputs }
         requires time { us < 9223372036854775808 }
         ensures reaction { (K : Kernel) (c : Config) → stands self.old K c → Reaction W.notes W.stops (stands self.new K) (λ n. run.done K n (Advance us) c) (world_of c).marks out.old out.new result }
+        ensures ran { (start : Self) (xs : List Command) → ran start xs self.old → OnOk result (ran start (xs ++ Advance us ∷ []) self.new) }
         ensures cause { HasCause (W.faults out.old) (W.faults out.new) result };
 
     /// One idle turn.
     fn idle<W: MarkSink>(&mut self, out: &mut W) -> Result<After, Failed>
         requires { (inputs : List Port) × IsWaiting (stands self.old) inputs }
         ensures reaction { (K : Kernel) (c : Config) → stands self.old K c → Reaction W.notes W.stops (stands self.new K) (λ n. run.idle_turn K n c) (world_of c).marks out.old out.new result }
+        ensures ran { (start : Self) (xs : List Command) → ran start xs self.old → OnOk result (ran start (xs ++ Idle 1 ∷ []) self.new) }
         ensures cause { HasCause (W.faults out.old) (W.faults out.new) result };
+
+    // No idle turns are nothing.
+    ghost no_turns: { (start s : Self) (xs : List Command) → ran start xs s → ran start (xs ++ Idle 0 ∷ []) s };
+
+    // Idle turns are the same in one command and in two.
+    ghost more_turns: { (start s : Self) (xs ys : List Command) (m n : ℕ) → ran start (xs ++ Idle m ∷ Idle n ∷ ys) s → ran start (xs ++ Idle (m + n) ∷ ys) s };
+
+    // A program that waits no longer does any commands, since they change nothing.
+    ghost over: { (K : Kernel) (c : Config) (start s : Self) (xs ys : List Command) → stands s K c → (status_of c ≡ Waits → ⊥) → ran start xs s → ran start (xs ++ ys) s };
 }

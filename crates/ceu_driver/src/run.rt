@@ -4,6 +4,8 @@ ghost use Rattle.ceu_io.specs.Told.{WhereTold};
 ghost use Rattle.ceu_script.specs.Lines.{script};
 ghost use Rattle.ceu_trace.specs.Lines.{short_names};
 ghost use Rattle.ceu_tree.specs.declared.kernel.Kernel.{Kernel};
+ghost use Rattle.ceu_driver.specs.Doing.{WherePlayed};
+ghost use Rattle.ceu_driver.specs.Printing.{commands_of};
 ghost use Rattle.ceu_driver.specs.Runs.{Plays, PlayCause, script_of};
 ghost use Rattle.ceu_driver.specs.Stops as spec;
 ghost use Rattle.ceu_driver.specs.Stops.{EndsWith, Finishes};
@@ -30,6 +32,7 @@ pub fn play<R: Reactor, I: Source, O: Sink>(
     requires inputs { length inputs.now ≤ 65535 }
     requires short { short_names outputs.now ≡ true }
     ensures told { (K : Kernel) → R.fresh reactor.old K → WhereTold (I.left source.old) (I.left source.new) (λ old new. Plays result K (script inputs.now (script_of old)) old (length new) all outputs.now (O.held sink.old) (O.held sink.new)) }
+    ensures ran { WhereTold (I.left source.old) (I.left source.new) (λ old new. WherePlayed result (R.ran reactor.old (commands_of (script inputs.now (script_of old))) reactor.new)) }
     ensures cause { PlayCause result (I.faults source.old) (I.faults source.new) (O.faults sink.old) (O.faults sink.new) }
 {
     let mut marks = TextMarks::new(sink, outputs, all);
@@ -45,6 +48,7 @@ fn play_marks<R: Reactor, I: Source, O: Sink>(
     requires fresh { (K : Kernel) × R.fresh reactor.old K × (K.inputs ≡ inputs.now) }
     requires inputs { length inputs.now ≤ 65535 }
     ensures told { (K : Kernel) → R.fresh reactor.old K → WhereTold (I.left source.old) (I.left source.new) (λ old new. Plays result K (script inputs.now (script_of old)) old (length new) marks.old.all marks.old.outputs.now (O.held marks.old.out.now) (O.held marks.new.out.now)) }
+    ensures ran { WhereTold (I.left source.old) (I.left source.new) (λ old new. WherePlayed result (R.ran reactor.old (commands_of (script inputs.now (script_of old))) reactor.new)) }
     ensures cause { PlayCause result (I.faults source.old) (I.faults source.new) (O.faults marks.old.out.now) (O.faults marks.new.out.now) }
     ensures name { marks.new.out.ghost_name ≡ marks.old.out.ghost_name }
 {

@@ -1,4 +1,4 @@
-//! Runs a program of one trail on a script: it is compiled, and its image runs behind the memory line.
+//! Runs a compiled program of one trail on a script: its image runs behind the memory line.
 #![tactic(auto)]
 
 mod running;

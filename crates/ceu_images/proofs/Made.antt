@@ -1,5 +1,5 @@
 -- The image that is made of a kernel of one trail is a compiled one.
-use Rattle.std.proofs.Common.{◌≡◌, refl, sym, subst, ℕ, ◌+◌, ◌*◌, ◌≤◌, false, List, length, arith}
+use Rattle.std.proofs.Common.{◌≡◌, refl, ℕ, ◌+◌, ◌*◌, ◌≤◌, false, List, length, arith}
 use Rattle.ceu_asm.specs.Lines.{code_size}
 use Rattle.ceu_asm.proofs.Following.{length-assembled}
 use Rattle.ceu_code.specs.declared.image.Image.{Image}
@@ -30,12 +30,6 @@ code_is : (P : Plan) (K : Kernel) (turns levels : ℕ) → length (shape P K tur
 unfolding shape
 code_is P K turns levels = length-assembled (shape_lines P K)
 
-pub few_slots : (K : Kernel) → IsSmall K → slots false K ≤ 65535
-few_slots K small = (let m = small.bytes in omega (arith, m, memory_is K))
-
-pub within : (K : Kernel) (p : Planned) → IsSmall K → HasPlaces false K p → 16 + 8 * depth K + 19 * gates K + p.total ≤ 65535
-within K p small places = (let m = small.bytes in let whole = places.whole in omega (arith, m, memory_is K, whole))
-
 fits : (K : Kernel) (p : Planned) (firsts counts : List ℕ) → IsSmall K → ArePlans K p firsts counts → PlanFits (joined p firsts counts) K
 fits K p firsts counts small plans =
     made_plans_fit false K p firsts counts small.light (let m = small.bytes in omega (arith, m, memory_is K)) small.few_gates plans.lawful plans.places plans.first_gates plans.gate_counts
@@ -55,11 +49,3 @@ images_compiled K p firsts counts turns levels proper single small plans some =
       slots = plans.lawful.kept;
       gates = record { first = fit.firsts; count = fit.counts };
     }
-
-pub made : (K : Kernel) (p : Planned) (firsts counts : List ℕ) (turns levels : ℕ) (image : Image) → Proper K → Single K → IsSmall K → ArePlans K p firsts counts → 1 ≤ turns
-    → image ≡ shape (joined p firsts counts) K turns levels → (P : Plan) × (width : ℕ → ℕ) × Compiled image P width K
-made K p firsts counts turns levels image proper single small plans some e = (
-  joined p firsts counts,
-  p.size,
-  subst (λ (i : Image). Compiled i (joined p firsts counts) p.size K) (sym e) (images_compiled K p firsts counts turns levels proper single small plans some),
-)

@@ -1,8 +1,6 @@
 //! Images of programs of one trail: the image that is made of a kernel is a compiled one.
 #![tactic(auto)]
 
-mod image;
 mod laws;
 
-pub use image::image_of;
 pub use laws::images_are_compiled;

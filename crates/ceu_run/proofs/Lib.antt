@@ -1,3 +1,1 @@
 mod Behind
-mod Built
-mod Ports

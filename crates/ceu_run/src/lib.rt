@@ -1,10 +1,8 @@
-//! Runs a program on a script behind its memory line, where its statements have the forms that run today.
+//! Runs a program on a script behind its memory line.
 #![tactic(auto)]
 
-mod forms;
 mod lines;
 mod running;
 
-pub use forms::first_unbuilt;
 pub use lines::write_memory;
-pub use running::{run, run_reactor};
+pub use running::run_reactor;

@@ -19,6 +19,7 @@ use Rattle.ceu_driver.proofs.Fronts.{front_behind, front_of_more}
 use Rattle.ceu_driver.specs.Runs.{PlayCause}
 use Rattle.ceu_driver.specs.declared.answers.Played.{Played}
 use Rattle.ceu_driver.specs.declared.answers.Played.TheVariants as played
+use Rattle.ceu_forms.specs.Forms.{first_unbuilt}
 use Rattle.ceu_io.specs.Bytes.{Appends, AppendsProperFront}
 use Rattle.ceu_gates.specs.Ranges.{first_gate, gate_count, IsByNode}
 use Rattle.ceu_gates.specs.declared.plan.GatePlan.{GatePlan}
@@ -34,7 +35,6 @@ use Rattle.ceu_io.specs.declared.shelves.ShelfError.TheVariants as failed
 use Rattle.ceu_lex.specs.declared.token.Token.{Token}
 use Rattle.ceu_listing.specs.Lines.{listing_text}
 use Rattle.ceu_print.specs.Statements.{program_text}
-use Rattle.ceu_run.specs.Forms.{first_unbuilt}
 use Rattle.ceu_run.specs.Lines.{memory_line}
 use Rattle.ceu_run.specs.Runs.{RunPrints}
 use Rattle.ceu_show.specs.Shown.{show_text}
@@ -54,12 +54,12 @@ use Rattle.ceu_top.specs.declared.words.Mode.TheVariants as asked
 use Rattle.ceu_top.specs.declared.words.Mode.TheVariants.{Run, Check, Tidy, Show}
 
 -- what was told before a call
-told_old : {A : Type 0} (x y : Option A) (P : A → Type 0) → WhereTold x y (λ old new. P old) → IfSome x P
+pub told_old : {A : Type 0} (x y : Option A) (P : A → Type 0) → WhereTold x y (λ old new. P old) → IfSome x P
 told_old None y P told = tt
 told_old (Some a) None P told = absurd told
 told_old (Some a) (Some b) P told = told
 
-if_some_map : {A : Type 0} (x : Option A) (P Q : A → Type 0) → ((a : A) → P a → Q a) → IfSome x P → IfSome x Q
+pub if_some_map : {A : Type 0} (x : Option A) (P Q : A → Type 0) → ((a : A) → P a → Q a) → IfSome x P → IfSome x Q
 if_some_map None P Q f h = tt
 if_some_map (Some a) P Q f h = f a h
 

@@ -3,3 +3,5 @@ pub mod Statuses
 pub mod Clauses
 pub mod Lining
 pub mod Limits
+pub mod Compiling
+pub mod Leaving

@@ -3,3 +3,4 @@ pub mod Lines
 pub mod Fetching
 pub mod Outcomes
 pub mod Answering
+pub mod Left

@@ -15,12 +15,12 @@ use Rattle.ceu_driver.specs.declared.answers.Played.TheVariants as played
 use Rattle.ceu_io.specs.Bytes.{Appends, AppendsProperFront}
 use Rattle.ceu_io.specs.Counts.{Quiet}
 use Rattle.ceu_io.specs.Told.{WhereTold}
+use Rattle.ceu_forms.specs.Forms.{first_unbuilt}
 use Rattle.ceu_gates.specs.Ranges.{first_gate, gate_count, IsByNode}
 use Rattle.ceu_gates.specs.declared.plan.GatePlan.{GatePlan}
 use Rattle.ceu_lex.specs.declared.token.Token.{Token}
 use Rattle.ceu_listing.specs.Lines.{listing_text}
 use Rattle.ceu_print.specs.Statements.{program_text}
-use Rattle.ceu_run.specs.Forms.{first_unbuilt}
 use Rattle.ceu_run.specs.Lines.{memory_line}
 use Rattle.ceu_run.specs.Runs.{IsRun, IsCut, IsUpTo, lines_of}
 use Rattle.ceu_show.specs.Shown.{show_text}

@@ -1,20 +1,24 @@
 // The mode `run`.
-ghost use Rattle.std.specs.Prelude.{◌≡◌, ◌≤◌, ℕ, List, length, false, None};
+ghost use Rattle.std.specs.Prelude.{◌≡◌, ◌≤◌, length, None, false};
 ghost use Rattle.ceu_bound.specs.PhaseB.{AreBounds};
 ghost use Rattle.ceu_compile.specs.Programs.{IsProgram};
-ghost use Rattle.ceu_run.specs.Forms as forms;
+ghost use Rattle.ceu_forms.specs.Forms as forms;
 ghost use Rattle.ceu_tree.specs.Needs.{memory};
+ghost use Rattle.ceu_tree.specs.Proper.{Proper};
 ghost use Rattle.ceu_top.specs.Answering as spec;
 ghost use Rattle.ceu_top.specs.Answering.{IsTextAnswer};
+ghost use Rattle.ceu_top.specs.Left.{IsTextLeft};
 
 use crate::status::Status;
 use crate::words::Mode;
 use crate::writing::refuse;
 use ceu_base::Rule;
-use ceu_compile::{CompileError, Program, program_of};
+use ceu_compile::{CompileError, Program, image_of_program, program_of};
 use ceu_driver::Played;
+use ceu_forms::first_unbuilt;
+use ceu_image_run::run;
 use ceu_io::{Sink, Source};
-use ceu_run::{first_unbuilt, run};
+use ceu_react::Session;
 use std::alloc::Global;
 
 /// Runs a text that breaks no rule on the script, or prints the line of the first that it breaks.
@@ -23,12 +27,15 @@ pub(crate) fn run_text<I: Source, O: Sink>(
     text: &[u8],
     input: &mut I,
     out: &mut O,
+    left: &mut Option<Session>,
 ) -> Status
-    requires { length text.now ≤ 1048576 }
-    ensures { IsTextAnswer Mode.Run result text.now (I.left input.old) (I.left input.new) (O.held out.old) (O.held out.new) (I.faults input.old) (I.faults input.new) (O.faults out.old) (O.faults out.new) }
+    requires within { length text.now ≤ 1048576 }
+    requires left { left.old ≡ None }
+    ensures answer { IsTextAnswer Mode.Run result text.now (I.left input.old) (I.left input.new) (O.held out.old) (O.held out.new) (I.faults input.old) (I.faults input.new) (O.faults out.old) (O.faults out.new) }
+    ensures left { IsTextLeft Mode.Run result text.now (I.left input.old) left.new }
 {
     match program_of(alloc, text) {
-        Ok(program) => run_program(alloc, &program, input, out),
+        Ok(program) => run_program(alloc, text, &program, input, out, left),
         Err(e) => match e {
             CompileError::Refused(rule, pos) => refuse(rule, pos, out),
             CompileError::Memory => Status::Memory,
@@ -38,41 +45,51 @@ pub(crate) fn run_text<I: Source, O: Sink>(
 
 fn run_program<I: Source, O: Sink>(
     alloc: Global,
+    text: &[u8],
     program: &Program,
     input: &mut I,
     out: &mut O,
+    left: &mut Option<Session>,
 ) -> Status
+    requires program { IsProgram text.now program.now.kernel }
+    requires proper { Proper program.now.kernel }
     requires sized { program.now.memory ≡ memory false program.now.kernel }
     requires bounded { AreBounds program.now.kernel program.now.bounds }
-    ensures { (text : List ℕ) → IsProgram text program.now.kernel → IsTextAnswer Mode.Run result text (I.left input.old) (I.left input.new) (O.held out.old) (O.held out.new) (I.faults input.old) (I.faults input.new) (O.faults out.old) (O.faults out.new) }
+    requires left { left.old ≡ None }
+    ensures answer { IsTextAnswer Mode.Run result text.now (I.left input.old) (I.left input.new) (O.held out.old) (O.held out.new) (I.faults input.old) (I.faults input.new) (O.faults out.old) (O.faults out.new) }
+    ensures left { IsTextLeft Mode.Run result text.now (I.left input.old) left.new }
 {
     match first_unbuilt(&program.kernel) {
         Some(pos) => refuse(Rule::B0, pos, out),
-        None => run_built(alloc, program, input, out),
+        None => run_built(alloc, text, program, input, out, left),
     }
 }
 
+// Compiles a program whose statements all have forms that run, and runs its image.
 fn run_built<I: Source, O: Sink>(
     alloc: Global,
+    text: &[u8],
     program: &Program,
     input: &mut I,
     out: &mut O,
+    left: &mut Option<Session>,
 ) -> Status
     requires built { forms.first_unbuilt program.now.kernel ≡ None }
+    requires program { IsProgram text.now program.now.kernel }
+    requires proper { Proper program.now.kernel }
     requires sized { program.now.memory ≡ memory false program.now.kernel }
     requires bounded { AreBounds program.now.kernel program.now.bounds }
-    ensures { (text : List ℕ) → IsProgram text program.now.kernel → IsTextAnswer Mode.Run result text (I.left input.old) (I.left input.new) (O.held out.old) (O.held out.new) (I.faults input.old) (I.faults input.new) (O.faults out.old) (O.faults out.new) }
+    requires left { left.old ≡ None }
+    ensures answer { IsTextAnswer Mode.Run result text.now (I.left input.old) (I.left input.new) (O.held out.old) (O.held out.new) (I.faults input.old) (I.faults input.new) (O.faults out.old) (O.faults out.new) }
+    ensures left { IsTextLeft Mode.Run result text.now (I.left input.old) left.new }
 {
-    let bounds = program.bounds;
-    match run(
-        alloc,
-        &program.kernel,
-        program.memory,
-        bounds.turns,
-        bounds.levels,
-        input,
-        out,
-    ) {
+    let Ok(image) = image_of_program(alloc, program) else {
+        return Status::Memory;
+    };
+    let kernel = &program.kernel;
+    let memory = program.memory;
+    let bounds = &program.bounds;
+    match run(alloc, kernel, image, memory, bounds, input, out, left) {
         Ok(played) => played_status(played),
         Err(_) => Status::Memory,
     }

@@ -1,6 +1,8 @@
 // The call over objects in memory.
 use crate::{Status, ceu};
+use ceu_compile::compile;
 use ceu_io::{MemShelf, MemSink, MemSource, Source};
+use ceu_react::{Session, State};
 use std::alloc::Global;
 use std::test::Fail;
 
@@ -37,6 +39,19 @@ fn call(
     script: &[u8],
     outside: &Outside,
 ) -> Result<(Status, Vec<u8>), Fail> {
+    let mut left = None;
+    call_left(alloc, words, text, script, outside, &mut left)
+}
+
+// The same, and the machine that it leaves.
+fn call_left(
+    alloc: Global,
+    words: &[&str],
+    text: &[u8],
+    script: &[u8],
+    outside: &Outside,
+    left: &mut Option<Session>,
+) -> Result<(Status, Vec<u8>), Fail> {
     let mut names = Vec::new(alloc);
     for word in words {
         names.push(String::from_str(alloc, word)?)?;
@@ -55,7 +70,14 @@ fn call(
         outside.pieces[1].max(1),
         Vec::from_slice(alloc, &[outside.fails[2]])?,
     )?;
-    let status = ceu(alloc, names.as_slice(), &mut shelf, &mut input, &mut out);
+    let status = ceu(
+        alloc,
+        names.as_slice(),
+        &mut shelf,
+        &mut input,
+        &mut out,
+        left,
+    );
     Ok((status, Vec::from_slice(alloc, out.bytes())?))
 }
 
@@ -104,7 +126,12 @@ fn runs_in_any_pieces(rt: HostRuntime) -> Result<(), Fail> {
             Status::Script,
             b"memory 47 turns 1 levels 0\n== script 1 form\n",
         ),
-        (b"await FOREVER;", b"", Status::Refused, b"refused B0 1:1\n"),
+        (
+            b"par do with end",
+            b"",
+            Status::Refused,
+            b"refused B0 1:1\n",
+        ),
     ];
     for (text, script, status, printed) in &rows {
         for piece in [1, 2, 7, 4096] {
@@ -123,6 +150,130 @@ fn runs_in_any_pieces(rt: HostRuntime) -> Result<(), Fail> {
             assert_eq!(rt; written.as_slice(), *printed);
         }
     }
+    Ok(())
+}
+
+// The expected texts are those of an implementation written apart from this one.
+#[test]
+fn images_of_one_trail_run(rt: HostRuntime) -> Result<(), Fail> {
+    let rows: [(&[u8], &[u8], Status, &[u8]); 12] = [
+        (
+            b"output int O; input int A; input none N; var int n = 3; loop i in [0 -> n] do n = 100; emit O(i); await N; end emit O(7);",
+            b"N\nN\nN\nN\nN",
+            Status::Done,
+            b"memory 67 turns 1 levels 0\nO 0\nO 1\nO 2\nO 3\nO 7\n== escape 0\n",
+        ),
+        (
+            b"output int O; input int A; input none N; do/a do/b escape/a; end emit O(1); end emit O(2);",
+            b"",
+            Status::Done,
+            b"memory 43 turns 1 levels 0\nO 2\n== escape 0\n",
+        ),
+        (
+            b"output int O; input int A; input none N; var int x = do/l loop do var int y = await A; if y > 3 then escape/l y; end end end emit O(x);",
+            b"A 1\nA 5",
+            Status::Done,
+            b"memory 59 turns 1 levels 0\nO 5\n== escape 0\n",
+        ),
+        (
+            b"output int O; input int A; input none N; every N do var int c; c = c + 1; emit O(c); end",
+            b"N\nN",
+            Status::Done,
+            b"memory 55 turns 1 levels 0\nO 1\nO 1\n== waiting\n",
+        ),
+        (
+            b"output int O; input int A; input none N; loop i in ]2147483647 -> 2147483647] do emit O(i); end emit O(1);",
+            b"",
+            Status::Done,
+            b"memory 63 turns 1 levels 0\nO 1\n== escape 0\n",
+        ),
+        (
+            b"output int O; input int A; input none N; var int z; loop i in [0 -> 1 / z] do await N; end",
+            b"",
+            Status::Fault,
+            b"memory 75 turns 1 levels 0\n== fault DivZero 1:71\n",
+        ),
+        (
+            b"output int O; input int A; input none N; var int d = await 10ms; emit O(d); d = await 1ms; emit O(d);",
+            b"+10ms\n+1ms",
+            Status::Done,
+            b"memory 47 turns 1 levels 0\nO 0\nO 0\n== escape 0\n",
+        ),
+        (
+            b"output int O; input int A; input none N; var int d = await 1us; emit O(d);",
+            b"+9223372036854775807us",
+            Status::Done,
+            b"memory 47 turns 1 levels 0\nO 2147483647\n== escape 0\n",
+        ),
+        (
+            b"input int A; output int O;\nevery A do\n  loop i in [1 -> 5] do\n    if i == 2 then continue; else/if i == 4 then break; end\n    emit O(i);\n  end\nend\n",
+            b"A 1\nA 2\n",
+            Status::Done,
+            b"memory 71 turns 1 levels 0\nO 1\nO 3\nO 1\nO 3\n== waiting\n",
+        ),
+        (
+            b"input int A; output int O;\nvar int x = await A;\nif x > 9 then emit O(1); else/if x > 4 then emit O(2); else emit O(3); end\nx = await A until x < 8;\nescape x * x - 3;\n",
+            b"A 6\nA 11\nA 7\n",
+            Status::Done,
+            b"memory 55 turns 1 levels 0\nO 2\n== escape 46\n",
+        ),
+        (
+            b"input int A; output int O;\nvar u8 n = 250; var int m;\nloop/4 do n = n + 1; m = m - 7; emit O((n as int) % 11 + (m >> 1)); end\nemit O(0);\n",
+            b"",
+            Status::Fault,
+            b"memory 68 turns 1 levels 0\nO 5\nO 3\nO -11\nO -13\n== fault LoopLimit 3:1\n",
+        ),
+        (
+            b"input int A; output int O;\nloop do\n  var int x = await A;\n  if x < 0 then break; end\n  var int d = await (x) ms;\n  emit O(d + 100 / (x - 3));\nend\n",
+            b"A 1\n+2ms\nA 3\n+1s\n",
+            Status::Fault,
+            b"memory 75 turns 1 levels 0\nO 950\n== fault DivZero 6:18\n",
+        ),
+    ];
+    for (text, script, status, printed) in &rows {
+        let (answer, written) = call(rt.alloc(), &["ceu", "run", "p.ceu"], text, script, &AMPLE)?;
+        assert_eq!(rt; answer, *status);
+        assert_eq!(rt; written.as_slice(), *printed);
+    }
+    Ok(())
+}
+
+// After a run that waits the machine is there; after a text that is refused none is.
+#[test]
+fn a_run_leaves_its_machine(rt: HostRuntime) -> Result<(), Fail> {
+    let mut left = None;
+    let (status, _) = call_left(
+        rt.alloc(),
+        &["ceu", "run", "p.ceu"],
+        TWICE,
+        b"A 7\n",
+        &AMPLE,
+        &mut left,
+    )?;
+    assert_eq!(rt; status, Status::Done);
+    let session = left.ok_or("a run leaves its machine")?;
+    assert_eq!(rt; session.state(), State::Waiting);
+    let made = compile(rt.alloc(), TWICE)
+        .ok()
+        .ok_or("a text has an image")?;
+    let image = session.image();
+    assert_eq!(rt; image.code.items(), made.code.items());
+    assert_eq!(rt; image.turns, made.turns);
+    assert_eq!(rt; image.gates, made.gates);
+    assert_eq!(rt; image.slots, made.slots);
+    assert_eq!(rt; image.depth, made.depth);
+    assert_eq!(rt; session.memory().len(), 47);
+    let mut none = Some(session);
+    let (status, _) = call_left(
+        rt.alloc(),
+        &["ceu", "run", "p.ceu"],
+        b"escape y;",
+        b"",
+        &AMPLE,
+        &mut none,
+    )?;
+    assert_eq!(rt; status, Status::Refused);
+    assert_eq!(rt; none.is_none(), true);
     Ok(())
 }
 
@@ -395,12 +546,14 @@ fn a_script_is_left_behind_a_failed_write(rt: HostRuntime) -> Result<(), Fail> {
     shelf.put("p.ceu", TWICE)?;
     let mut input = MemSource::new(script, 1, Vec::from_slice(rt.alloc(), &[5000])?);
     let mut out = MemSink::new(rt.alloc(), 4096, 4096, Vec::from_slice(rt.alloc(), &[2])?)?;
+    let mut left = None;
     let status = ceu(
         rt.alloc(),
         words.as_slice(),
         &mut shelf,
         &mut input,
         &mut out,
+        &mut left,
     );
     assert_eq!(rt; status, Status::Write);
     assert_eq!(rt; out.bytes(), b"memory 47 turns 1 levels 0\n".as_slice());

@@ -1,8 +1,9 @@
 // The top call.
-ghost use Rattle.std.specs.Prelude.{◌≡◌, ◌≢◌, ◌⊎◌, ◌≤◌, length, IfSome, MatchOption};
+ghost use Rattle.std.specs.Prelude.{◌≡◌, ◌≢◌, ◌⊎◌, ◌≤◌, None, length, IfSome, MatchOption};
 ghost use Rattle.ceu_io.specs.Counts.{Rose};
 ghost use Rattle.ceu_top.specs.Answering.{IsAnswer, IsFileAnswer, IsTextAnswer};
 ghost use Rattle.ceu_top.specs.Command.{command_of};
+ghost use Rattle.ceu_top.specs.Left.{IsFileLeft, IsLeft, IsTextLeft};
 ghost use Rattle.ceu_top.specs.Outcomes.{On, Headline, IsAbsent, IsTooLong, IsWhole, IsCutShort, IsStopped, IsTaken, IsUnwritten, UnlessFailed, UnlessRun, UnlessRunning};
 
 use crate::checking::check_text;
@@ -14,6 +15,7 @@ use crate::status::Status;
 use crate::tidying::tidy_text;
 use crate::words::{Mode, command_of};
 use ceu_io::{Shelf, Sink, Source};
+use ceu_react::Session;
 use std::alloc::Global;
 
 /// Does what the words of a command line say: `run`, `check`, `list`, `tidy` or `show` with a file's name.
@@ -29,6 +31,7 @@ pub fn ceu<S: Shelf, I: Source, O: Sink>(
     shelf: &mut S,
     input: &mut I,
     out: &mut O,
+    left: &mut Option<Session>,
 ) -> Status
     // Where no count of faults rose, all tell what they hold and memory is found, what is written and the status are those that the
     // definitions give for the words, the file's text and the script.
@@ -54,10 +57,14 @@ pub fn ceu<S: Shelf, I: Source, O: Sink>(
     ensures unread { UnlessRunning words.now (input.new ≡ input.old) }
     // Words, Memory, Absent and TooLong come with nothing written.
     ensures unwritten { IsUnwritten result (O.held out.new ≡ O.held out.old) }
+    // After a run that the script's end, a bad line, the program's end or a fault stopped, the machine is left: its image is an image of the text, and
+    // its bytes and its state are those behind boot and the commands of the script. In every other case none is.
+    ensures left { IsLeft result words.now (S.files shelf.old) (I.left input.old) left.new }
     // Every answer but Read and Write comes only where no count rose.
     ensures quiet { UnlessFailed result ((S.faults shelf.new ≡ S.faults shelf.old) × (I.faults input.new ≡ I.faults input.old) × (O.faults out.new ≡ O.faults out.old)) }
 {
-    answer(alloc, words, shelf, input, out)
+    *left = None;
+    answer(alloc, words, shelf, input, out, left)
 }
 
 fn answer<S: Shelf, I: Source, O: Sink>(
@@ -66,12 +73,15 @@ fn answer<S: Shelf, I: Source, O: Sink>(
     shelf: &mut S,
     input: &mut I,
     out: &mut O,
+    left: &mut Option<Session>,
 ) -> Status
+    requires { left.old ≡ None }
     ensures answer { IsAnswer result words.now (S.files shelf.old) (I.left input.old) (I.left input.new) (O.held out.old) (O.held out.new) (S.faults shelf.old) (S.faults shelf.new) (I.faults input.old) (I.faults input.new) (O.faults out.old) (O.faults out.new) }
     ensures unread { UnlessRunning words.now (input.new ≡ input.old) }
+    ensures left { IsLeft result words.now (S.files shelf.old) (I.left input.old) left.new }
 {
     match command_of(words) {
-        Some((mode, file)) => on_file(alloc, mode, file, shelf, input, out),
+        Some((mode, file)) => on_file(alloc, mode, file, shelf, input, out, left),
         None => Status::Words,
     }
 }
@@ -83,12 +93,15 @@ fn on_file<S: Shelf, I: Source, O: Sink>(
     shelf: &mut S,
     input: &mut I,
     out: &mut O,
+    left: &mut Option<Session>,
 ) -> Status
+    requires { left.old ≡ None }
     ensures answer { IsFileAnswer mode result file.now (S.files shelf.old) (I.left input.old) (I.left input.new) (O.held out.old) (O.held out.new) (S.faults shelf.old) (S.faults shelf.new) (I.faults input.old) (I.faults input.new) (O.faults out.old) (O.faults out.new) }
     ensures unread { UnlessRun mode (input.new ≡ input.old) }
+    ensures left { IsFileLeft mode result file.now (S.files shelf.old) (I.left input.old) left.new }
 {
     match fetch(alloc, file, shelf) {
-        Ok(text) => on_text(alloc, mode, text.as_slice(), input, out),
+        Ok(text) => on_text(alloc, mode, text.as_slice(), input, out, left),
         Err(status) => status,
     }
 }
@@ -99,13 +112,16 @@ fn on_text<I: Source, O: Sink>(
     text: &[u8],
     input: &mut I,
     out: &mut O,
+    left: &mut Option<Session>,
 ) -> Status
-    requires { length text.now ≤ 1048576 }
+    requires within { length text.now ≤ 1048576 }
+    requires left { left.old ≡ None }
     ensures answer { IsTextAnswer mode result text.now (I.left input.old) (I.left input.new) (O.held out.old) (O.held out.new) (I.faults input.old) (I.faults input.new) (O.faults out.old) (O.faults out.new) }
     ensures unread { UnlessRun mode (input.new ≡ input.old) }
+    ensures left { IsTextLeft mode result text.now (I.left input.old) left.new }
 {
     match mode {
-        Mode::Run => run_text(alloc, text, input, out),
+        Mode::Run => run_text(alloc, text, input, out, left),
         Mode::Check => check_text(alloc, text, out),
         Mode::List => list_text(alloc, text, out),
         Mode::Tidy => tidy_text(alloc, text, out),

@@ -12,3 +12,18 @@ returns-in-Tidy-clause-answer g c = rw c.in-Tidy.is (text_printed c.tidy_text.en
 
 pub returns-in-Show-clause-answer : goal.returns-in-Show-clause-answer
 returns-in-Show-clause-answer g c = rw c.in-Show.is (text_printed c.show_bytes.ensures)
+
+pub returns-in-Check-clause-left : goal.returns-in-Check-clause-left
+returns-in-Check-clause-left g c = rw c.in-Check.is c.requires.left
+
+pub returns-in-List-clause-left : goal.returns-in-List-clause-left
+returns-in-List-clause-left g c = rw c.in-List.is c.requires.left
+
+pub returns-in-Tidy-clause-left : goal.returns-in-Tidy-clause-left
+returns-in-Tidy-clause-left g c = rw c.in-Tidy.is c.requires.left
+
+pub returns-in-Show-clause-left : goal.returns-in-Show-clause-left
+returns-in-Show-clause-left g c = rw c.in-Show.is c.requires.left
+
+pub returns-in-Run-clause-left : goal.returns-in-Run-clause-left
+returns-in-Run-clause-left g c = rw c.in-Run.is c.run_text.ensures.left

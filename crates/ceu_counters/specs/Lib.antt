@@ -1,0 +1,3 @@
+pub mod Counters
+pub mod Ints
+pub mod Laws
