@@ -1,26 +1,16 @@
 -- Aliases that name instances of a tree: of the alias's code, in a pool that it may have, and of its body.
-use Rattle.std.proofs.Common.{◌≡◌, refl, sym, ap, ◌≤◌, ℕ, ◌+◌, Bool, true, false, not, ◌==◌, ◌&&◌, ◌||◌, nat_le, List, [], ◌∷◌, ◌++◌, arith, eqb-true}
+use Rattle.std.proofs.Common.{◌≡◌, refl, sym, ap, ◌≤◌, ℕ, ◌+◌, Bool, true, false, ◌==◌, nat_le, List, [], ◌∷◌, ◌++◌, arith, eqb-true}
 use Rattle.std.proofs.lemmas.Bool.{and_parts, and_from, leb-true, false≢true}
 use Rattle.std.specs.List.{list_all}
 use Rattle.ceu_tree.specs.declared.kernel.Kernel.{Kernel}
-use Rattle.ceu_tree.specs.Residual.{Body, Awaited, Spawned, same_body, Residual, Over, Run, WaitInput, WaitTime, WaitEvent, WaitForever, InAsync, Block, Open, Loop, Call, Par, Branches, no_branch, branch, Instances, no_instance, instance}
+use Rattle.ceu_tree.specs.Residual.{Body, Awaited, Spawned, Residual, Over, Run, WaitInput, WaitTime, WaitEvent, WaitForever, InAsync, Block, Open, Loop, Call, Par, Branches, no_branch, branch, Instances, no_instance, instance}
 use Rattle.ceu_tree.specs.World.{Cell, Holds, NotSet, Names, Held}
 use Rattle.ceu_tree.specs.Legal.{lies, Seated, seats, branch_seats, instance_seats, numbers}
-use Rattle.ceu_tree.specs.Proper.{alias_takes}
+use Rattle.ceu_held.specs.Names.{names, low, one, agrees}
 use Rattle.ceu_held.proofs.Values.{held, Lie, lie_more}
 use Rattle.ceu_held.proofs.Slots.{once}
 use Rattle.ceu_held.proofs.Kept.{is_name}
-use Rattle.ceu_held.proofs.Rows.{rows, kind_at}
 use Rattle.ceu_held.proofs.Seats.{each_seat, branches_seats, all_seats}
-
-abbrev pub names : Cell → ℕ → Bool
-names (Names k) n = n == k
-names c n = false
-
--- no more than were given
-abbrev pub low : ℕ → Cell → Bool
-low g (Names k) = nat_le k g
-low g c = true
 
 pub names_number : (c : Cell) (g n : ℕ) → low g c ≡ true → g + 1 ≤ n → names c n ≡ false
 names_number (Names k) g n e l = go (n == k) refl
@@ -32,25 +22,15 @@ names_number (Holds v) g n e l = refl
 names_number NotSet g n e l = refl
 
 module _ (K : Kernel) where
-  abbrev pub suits : Held → Seated → Bool
-  suits h x = alias_takes x.seat.code x.seat.pool (kind_at h.slot (rows K)) && same_body x.body h.body
-
-  -- the instance is not the one that is named, or is one that the alias may name
-  abbrev pub one : Held → Seated → Bool
-  one h x = not (names h.cell x.seat.number) || suits h x
-
-  abbrev pub agrees : ℕ → List Seated → Held → Bool
-  agrees g found h = low g h.cell && list_all (one h) found
-
-  all_plain : (b : Body) (s : ℕ) (c : Cell) (found : List Seated) → is_name c ≡ false → list_all (one (held b s c)) found ≡ true
+  all_plain : (b : Body) (s : ℕ) (c : Cell) (found : List Seated) → is_name c ≡ false → list_all (one K (held b s c)) found ≡ true
   all_plain b s (Holds v) [] e = refl
   all_plain b s NotSet [] e = refl
   all_plain b s (Holds v) (x ∷ xs) e = all_plain b s (Holds v) xs e
   all_plain b s NotSet (x ∷ xs) e = all_plain b s NotSet xs e
   all_plain b s (Names k) found e = absurd (false≢true (sym e))
 
-  pub plain_agrees : (g : ℕ) (found : List Seated) (b : Body) (s : ℕ) (c : Cell) → is_name c ≡ false → 1 ≤ once (agrees g found (held b s c))
-  plain_agrees g found b s c e = let a = ap once (and_from (low g c) (list_all (one (held b s c)) found) (lower c e) (all_plain b s c found e)) in omega (arith, a)
+  pub plain_agrees : (g : ℕ) (found : List Seated) (b : Body) (s : ℕ) (c : Cell) → is_name c ≡ false → 1 ≤ once (agrees K g found (held b s c))
+  plain_agrees g found b s c e = let a = ap once (and_from (low g c) (list_all (one K (held b s c)) found) (lower c e) (all_plain b s c found e)) in omega (arith, a)
     where
       lower : (c : Cell) → is_name c ≡ false → low g c ≡ true
       lower (Holds v) e = refl

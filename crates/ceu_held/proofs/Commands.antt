@@ -40,7 +40,8 @@ use Rattle.ceu_held.proofs.Reactions.{TreeLies, ConfigLies, focus_more, chosen_r
 
 -- ---- changes of leaves
 
-either_room : (K : Kernel) (g : ℕ) (h : Held) (b : Bool) (x y : Residual) (body : Body) → room K.codes g h x body ≡ 0 → room K.codes g h y body ≡ 0 → room K.codes g h (if b then x else y) body ≡ 0
+either_room : (K : Kernel) (g : ℕ) (h : Held) (b : Bool) (x y : Residual) (body : Body) → room K.codes g h x body ≡ 0 → room K.codes g h y body ≡ 0
+    → room K.codes g h (if b then x else y) body ≡ 0
 either_room K g h true x y body p q = p
 either_room K g h false x y body p q = q
 
@@ -64,7 +65,8 @@ unfolding room
 round_same K g h (InAsync s b r) body = refl
 round_same K g h r body = refl
 
-leaves_lie : (K : Kernel) (c : Residual → Residual) (r : Residual) (w : World) → ((h : Held) → Calm K.codes w.given h c) → TreeLies K r w → TreeLies K (each_leaf c r) w
+leaves_lie : (K : Kernel) (c : Residual → Residual) (r : Residual) (w : World) → ((h : Held) → Calm K.codes w.given h c) → TreeLies K r w
+    → TreeLies K (each_leaf c r) w
 leaves_lie K c r w calm x = lie_more (λ h. room K.codes w.given h r Program) (λ h. room K.codes w.given h (each_leaf c r) Program) (λ h l. (let a = leaves_room K.codes w.given h c (calm h) r Program in omega (arith, a, l))) w.values x
 
 module _ (K : Kernel) (proper : is_proper K ≡ true) where
@@ -141,7 +143,8 @@ module _ (K : Kernel) (proper : is_proper K ≡ true) where
     ServedLies (Done w) = LieIn (λ h. Beside w.given h) w
     ServedLies x = Unit {0}
 
-    serve_lies : (k : ℕ) (f : Focus Act) (w : World) (d : Part) → AsyncPart K proper d → ((g : ℕ) → Covers K g (Beside g) d root) → TurnFits K 1 d f → LieIn (λ h. focus_room K.codes w.given h f root + Beside w.given h) w → ServedLies (serve K k root f w)
+    serve_lies : (k : ℕ) (f : Focus Act) (w : World) (d : Part) → AsyncPart K proper d → ((g : ℕ) → Covers K g (Beside g) d root) → TurnFits K 1 d f
+        → LieIn (λ h. focus_room K.codes w.given h f root + Beside w.given h) w → ServedLies (serve K k root f w)
     unfolding serve room
     serve_lies zero f w d a c t x = tt
     serve_lies (suc k) f w d a c t x =
@@ -157,7 +160,8 @@ module _ (K : Kernel) (proper : is_proper K ≡ true) where
         closed : LieIn (λ h. 0 + Beside u.given h) u → LieIn (λ h. Beside u.given h) u
         closed l = lie_rest (Beside u.given) u l
 
-        go : (x : Outcome) → Comes K 0 d x → LieIn (λ h. left_whole K proper u.given h root x + Beside u.given h) u → ((q : Focus Act) → TurnFits K 1 d q → LieIn (λ h. focus_room K.codes u.given h q root + Beside u.given h) u → ServedLies (serve K k root q u))
+        go : (x : Outcome) → Comes K 0 d x → LieIn (λ h. left_whole K proper u.given h root x + Beside u.given h) u
+            → ((q : Focus Act) → TurnFits K 1 d q → LieIn (λ h. focus_room K.codes u.given h q root + Beside u.given h) u → ServedLies (serve K k root q u))
             → ServedLies (elim x [
               | Goes g ↦ elim (is_again (leaf g)) [ true ↦ Turned (plug g (Run 0 Again)) u | false ↦ serve K k root g u ]
               | Fails e r ↦ Failed e r u
@@ -181,7 +185,8 @@ module _ (K : Kernel) (proper : is_proper K ≡ true) where
         go AtLoopHead y l ih = closed l
         go (Leaves node e) y l ih = closed l
 
-    first_lies : (k : ℕ) (p : Option (Focus Act)) (r : Residual) (w : World) (d : Part) → AsyncPart K proper d → ((g : ℕ) → Covers K g (Beside g) d root) → ChoiceFits K 1 Act (runs_at 0) d p → FoundIn Act (runs_at 0) r p
+    first_lies : (k : ℕ) (p : Option (Focus Act)) (r : Residual) (w : World) (d : Part) → AsyncPart K proper d → ((g : ℕ) → Covers K g (Beside g) d root)
+        → ChoiceFits K 1 Act (runs_at 0) d p → FoundIn Act (runs_at 0) r p
         → LieIn (λ h. room K.codes w.given h r root + Beside w.given h) w → ServedLies (serve_first K k root p r w)
     first_lies k None r w d a c t x l = l
     first_lies k (Some f) r w d a c t x l =
@@ -197,12 +202,14 @@ module _ (K : Kernel) (proper : is_proper K ≡ true) where
   unserved_room g h r x body e = absurd (cc)
 
   -- what is seen in an async is open around it
-  async_covers : {t : ℕ} (g : ℕ) (o : Focus Unserved) (sc : Scope) (s : KNode) (b : KBlock) → Around K t Unserved o (program_part K) (AStatement sc s) → Covers K g (λ h. focus_room K.codes g h o Program) (ABlock false (async_scope K sc) b) (body_of o Program)
+  async_covers : {t : ℕ} (g : ℕ) (o : Focus Unserved) (sc : Scope) (s : KNode) (b : KBlock) → Around K t Unserved o (program_part K) (AStatement sc s)
+      → Covers K g (λ h. focus_room K.codes g h o Program) (ABlock false (async_scope K sc) b) (body_of o Program)
   async_covers g o sc s b a =
       let c = around_covers K g a (λ h. 0) Program (root_covers K proper g) in
       covers_more K g (λ h. focus_room K.codes g h o Program + 0) (λ h. focus_room K.codes g h o Program) (ABlock false (async_scope K sc) b) (body_of o Program) (λ h n. omega (arith, n)) (c.0, inl c.1)
 
-  after_lies : (k : ℕ) (o : Focus Unserved) (x : Served) (r : Residual) (w : World) (sc : Scope) (b : KBlock) → Around K 0 Unserved o (program_part K) (AStatement sc (leaf o).stmt) → out-KStmt (leaf o).stmt.stmt ≡ KStmt-F.Async b
+  after_lies : (k : ℕ) (o : Focus Unserved) (x : Served) (r : Residual) (w : World) (sc : Scope) (b : KBlock)
+      → Around K 0 Unserved o (program_part K) (AStatement sc (leaf o).stmt) → out-KStmt (leaf o).stmt.stmt ≡ KStmt-F.Async b
       → ConfigCounts (after_serving K 0 o x r w) → TreeLies K r w → ServedLies o (body_of o Program) x → ConfigLies K (after_serving K k o x r w)
   unfolding room steps
   after_lies k o Unfinished r w sc b a e z h s = h
@@ -215,7 +222,8 @@ module _ (K : Kernel) (proper : is_proper K ≡ true) where
       (λ h n. (let y = plug_room K.codes u.given h o (Run 0 (Finish (leaf o).stmt (pos 0))) Program in omega (arith, y, n))) u.values s)
   after_lies k o (Failed y q u) r w sc b a e z h s = tt
 
-  served_lies : (k : ℕ) (p : Option (Focus Unserved)) (r : Residual) (w : World) → ChoiceFits K 0 Unserved unserved (program_part K) p → FoundIn Unserved unserved r p → TreeCounts r w → TreeLies K r w → ConfigLies K (served K k p r w)
+  served_lies : (k : ℕ) (p : Option (Focus Unserved)) (r : Residual) (w : World) → ChoiceFits K 0 Unserved unserved (program_part K) p
+      → FoundIn Unserved unserved r p → TreeCounts r w → TreeLies K r w → ConfigLies K (served K k p r w)
   served_lies k None r w t x z h = h
   served_lies k (Some o) r w t x z h =
       let l = async_leaf K proper t.part t.was (leaf o) t.fits t.picked in
@@ -230,9 +238,9 @@ module _ (K : Kernel) (proper : is_proper K ≡ true) where
       let c = choice_fits K 1 Act (runs_at 0) l.fits in
       let d = choose_found Act (runs_at 0) (leaf o).inner in
       let counts = first_counts K proper (λ i. live_focus i o) k (body_of o Program) q (leaf o).inner w _ p c d
-          (counts_same (λ i. lives i r) (λ i. lives i (leaf o).inner + live_focus i o) w w (record { living = refl; given = refl })
-          (λ i. (let u = plug_lives i o x.was in let v = unserved_lives K proper i x.was (leaf o) x.picked in let y = ap (lives i) x.plugs in omega (arith, u, v, y))) z.0)
-          (unserved_stands K proper x.was (leaf o) x.picked f.1) in
+      (counts_same (λ i. lives i r) (λ i. lives i (leaf o).inner + live_focus i o) w w (record { living = refl; given = refl })
+      (λ i. (let u = plug_lives i o x.was in let v = unserved_lives K proper i x.was (leaf o) x.picked in let y = ap (lives i) x.plugs in omega (arith, u, v, y))) z.0)
+      (unserved_stands K proper x.was (leaf o) x.picked f.1) in
       after_lies k o _ r w l.scope l.block a l.layer (after_counts K proper 0 o _ r w l.scope l.block a l.layer f.0 z counts) h
       (first_lies o (body_of o Program) k q (leaf o).inner w _ p (λ g. async_covers g o l.scope (leaf o).stmt l.block a) c d
       (lie_more (λ i. room K.codes w.given i r Program) (λ i. room K.codes w.given i (leaf o).inner (body_of o Program) + focus_room K.codes w.given i o Program)

@@ -24,7 +24,8 @@ use Rattle.ceu_held.specs.Kinds.{cell_fits, slot_fits, fits_declared, fits_count
 use Rattle.ceu_held.proofs.Slots.{once, at_room, decls_room, turns_room, layer_room, code_room, room, each_room, all_room}
 use Rattle.ceu_held.proofs.Values.{held, Lie, held_at}
 use Rattle.ceu_held.proofs.Covers.{slot_is, kind_same}
-use Rattle.ceu_held.proofs.Rows.{inner_pools, decl_rows, loop_rows, block_rows, rows, Among, Incl, incl_left, incl_right, blocks_all_rows, kind_of_row}
+use Rattle.ceu_held.specs.Declared.{inner_pools, decl_rows, loop_rows, block_rows, rows}
+use Rattle.ceu_held.proofs.Rows.{Among, Incl, incl_left, incl_right, blocks_all_rows, kind_of_row}
 use Rattle.ceu_held.proofs.Known.{row, KnownSeen, Known, decls_known, list_known, parts_known, part_known, turn_known, async_known, params_known, code_known}
 
 split : (a b : ℕ) → 1 ≤ a + b → (1 ≤ a) ⊎ (1 ≤ b)
@@ -43,7 +44,8 @@ module _ (K : Kernel) (proper : is_proper K ≡ true) where
     pub is : slot_is K g kind h.cell ≡ true
 
   module _ (g : ℕ) (h : Held) where
-    at_kind : (body : Body) (slot : ℕ) (k : KKind) (seen : SlotKind) → ((c : Cell) → is_of_kind g k c ≡ true → slot_is K g seen c ≡ true) → Among (row slot seen) (rows K) → 1 ≤ at_room K.codes g h body slot k → HasKind g h
+    at_kind : (body : Body) (slot : ℕ) (k : KKind) (seen : SlotKind) → ((c : Cell) → is_of_kind g k c ≡ true → slot_is K g seen c ≡ true)
+        → Among (row slot seen) (rows K) → 1 ≤ at_room K.codes g h body slot k → HasKind g h
     at_kind body slot k seen f m l = go (lies_at K.codes g h body slot k) refl l
       where
         go : (b : Bool) → lies_at K.codes g h body slot k ≡ b → 1 ≤ once b → HasKind g h
@@ -106,7 +108,8 @@ module _ (K : Kernel) (proper : is_proper K ≡ true) where
           ]
       lies_kind (in_par {sc = sc} {s = s} k slot bs e q more) i body l = each_kind more (parts_known K proper (pools_seen sc.seen) s (KStmt-F.Par k slot bs) e i.0) i.1 body l
 
-      each_kind : {t : ℕ} {sc : Scope} {k : ParKind} {bs : List KBlock} {rs : Branches} → EachFits K t sc k bs rs → Incl (blocks_all_rows (pools_seen sc.seen) bs) (rows K) → KnownSeen K proper sc.seen → (body : Body) → 1 ≤ each_room K.codes g h rs body → HasKind g h
+      each_kind : {t : ℕ} {sc : Scope} {k : ParKind} {bs : List KBlock} {rs : Branches} → EachFits K t sc k bs rs
+          → Incl (blocks_all_rows (pools_seen sc.seen) bs) (rows K) → KnownSeen K proper sc.seen → (body : Body) → 1 ≤ each_room K.codes g h rs body → HasKind g h
       each_kind no_more i j body l = absurd (omega (arith, l))
       each_kind {sc = sc} (an_ended {b = b} {bs = bs} m rest) i j body l = each_kind rest (incl_right (block_rows (pools_seen sc.seen) b) (blocks_all_rows (pools_seen sc.seen) bs) (rows K) i) j body (omega (arith, l))
       each_kind {sc = sc} (a_branch {b = b} {bs = bs} {r = r} {more = more} fit rest) i j body l =
@@ -129,7 +132,8 @@ module _ (K : Kernel) (proper : is_proper K ≡ true) where
   EachKind g [] = Unit {0}
   EachKind g (h ∷ hs) = HasKind g h × EachKind g hs
 
-  pub each_lies : {t : ℕ} {d : Part} {r : Residual} (g : ℕ) → Fits K t d r → Known K proper d → (body : Body) (hs : List Held) → Lie (λ h. room K.codes g h r body) hs → EachKind g hs
+  pub each_lies : {t : ℕ} {d : Part} {r : Residual} (g : ℕ) → Fits K t d r → Known K proper d → (body : Body) (hs : List Held)
+      → Lie (λ h. room K.codes g h r body) hs → EachKind g hs
   each_lies g fit i body [] l = tt
   each_lies g fit i body (h ∷ hs) l = (lies_kind g h fit i body l.0, each_lies g fit i body hs l.1)
 
@@ -137,7 +141,8 @@ module _ (K : Kernel) (proper : is_proper K ≡ true) where
   look_kind g body slot c [] k e = absurd (cc)
   look_kind g body slot c (h ∷ hs) k e = go (is_at body slot h) refl e (look_kind g body slot c hs k.1)
     where
-      go : (b : Bool) → is_at body slot h ≡ b → (if b then Some h.cell else look body slot hs) ≡ Some c → (look body slot hs ≡ Some c → HasKind g (held body slot c)) → HasKind g (held body slot c)
+      go : (b : Bool) → is_at body slot h ≡ b → (if b then Some h.cell else look body slot hs) ≡ Some c
+          → (look body slot hs ≡ Some c → HasKind g (held body slot c)) → HasKind g (held body slot c)
       go true q z ih = subst (HasKind g) (sym (held_at body slot h.cell h q) ∙ ap (held body slot) (ap (λ o. elim o [ None ↦ h.cell | Some x ↦ x ]) z)) k.0
       go false q z ih = ih z
 
@@ -145,7 +150,8 @@ module _ (K : Kernel) (proper : is_proper K ≡ true) where
     pub one_kind : (slot : ℕ) (k j : SlotKind) → Among (row slot k) (rows K) → Among (row slot j) (rows K) → k ≡ j
     one_kind slot k j m n = ap (λ o. elim o [ None ↦ k | Some x ↦ x ]) (sym (kind_of_row K proper (row slot k) m) ∙ kind_of_row K proper (row slot j) n)
 
-    slot_kinds : (body : Body) (slot : ℕ) (k : KKind) (seen : SlotKind) → ((c : Cell) → slot_is K w.given seen c ≡ true → is_of_kind w.given k c ≡ true) → Among (row slot seen) (rows K) → slot_fits K.codes w body slot k ≡ true
+    slot_kinds : (body : Body) (slot : ℕ) (k : KKind) (seen : SlotKind) → ((c : Cell) → slot_is K w.given seen c ≡ true → is_of_kind w.given k c ≡ true)
+        → Among (row slot seen) (rows K) → slot_fits K.codes w body slot k ≡ true
     slot_kinds body slot k seen f m = go (look body slot w.values) refl
       where
         go : (o : Option Cell) → look body slot w.values ≡ o → cell_fits K.codes w k o ≡ true
@@ -193,7 +199,8 @@ module _ (K : Kernel) (proper : is_proper K ≡ true) where
           and_from _ _ (subst (λ l. fits_given K.codes w (Awaited body s.node) (called_code K.codes l) ≡ true) (sym q) (code_fits (Awaited body s.node) c (code_at c K.codes) refl)) (tree_fits more (code_known K proper c k p) (Awaited body s.node))
       tree_fits (in_par {sc = sc} {s = s} k slot bs q p more) i body = each_fit more (parts_known K proper (pools_seen sc.seen) s (KStmt-F.Par k slot bs) q i.0) i.1 body
 
-      each_fit : {t : ℕ} {sc : Scope} {k : ParKind} {bs : List KBlock} {rs : Branches} → EachFits K t sc k bs rs → Incl (blocks_all_rows (pools_seen sc.seen) bs) (rows K) → KnownSeen K proper sc.seen → (body : Body) → kinds_fit_branches K.codes w rs body ≡ true
+      each_fit : {t : ℕ} {sc : Scope} {k : ParKind} {bs : List KBlock} {rs : Branches} → EachFits K t sc k bs rs
+          → Incl (blocks_all_rows (pools_seen sc.seen) bs) (rows K) → KnownSeen K proper sc.seen → (body : Body) → kinds_fit_branches K.codes w rs body ≡ true
       each_fit no_more i j body = refl
       each_fit {sc = sc} (an_ended {b = b} {bs = bs} m rest) i j body = each_fit rest (incl_right (block_rows (pools_seen sc.seen) b) (blocks_all_rows (pools_seen sc.seen) bs) (rows K) i) j body
       each_fit {sc = sc} (a_branch {b = b} {bs = bs} fit rest) i j body =

@@ -120,7 +120,8 @@ module _ (K : Kernel) (n : ℕ) (root body : Body) (f : Focus Act) where
   answered_given : (x : Outcome) (f : Focus Act) (w : World) → ((a : Act) → left 0 (Here a) x ≡ 0) → w.given ≤ given_of (answered root f x w)
   answered_given x f w e = let a = (answered_balanced 0 f x root w e).given in omega (arith, a)
 
-  spawned_given : (s : KNode) (c : KCode) (code pool : ℕ) (alias : Option ℕ) (vs : List ℤ) (w : World) → w.given ≤ given_of (spawned n root body f s c code pool alias vs w)
+  spawned_given : (s : KNode) (c : KCode) (code pool : ℕ) (alias : Option ℕ) (vs : List ℤ) (w : World)
+      → w.given ≤ given_of (spawned n root body f s c code pool alias vs w)
   spawned_given s c code pool alias vs w = go (free_place pool f)
     where
       number : ℕ

@@ -51,7 +51,8 @@ module _ (K : Kernel) (pool : ℕ) (proper : is_proper K ≡ true) (code : ℕ) 
   frame_same (around_call m es f y k q c) p body = absurd (parameters_apart K pool code m (pool_slots k.params ++ []) k proper c p)
   frame_same (around_branch k slot bs b cs q y z) p body = refl
 
-  frame_through : {t : ℕ} {fr : Frame} {d e : Part} → FrameFits K t fr d e → frame_without pool fr → part_find K pool e ≡ Some (IsPool code) → part_find K pool d ≡ Some (IsPool code)
+  frame_through : {t : ℕ} {fr : Frame} {d e : Part} → FrameFits K t fr d e → frame_without pool fr → part_find K pool e ≡ Some (IsPool code)
+      → part_find K pool d ≡ Some (IsPool code)
   frame_through {fr = fr} {d = d} a n p = go (frame_found K pool proper code a p)
     where
       go : frame_has pool code fr ⊎ (frame_without pool fr × (part_find K pool d ≡ Some (IsPool code))) → part_find K pool d ≡ Some (IsPool code)
@@ -69,7 +70,8 @@ module _ (K : Kernel) (pool : ℕ) (proper : is_proper K ≡ true) (code : ℕ) 
   block_homed (OfBlock b fin all rest) body home q h = λ n e. sym q
   block_homed fr body home q h = elim h [ ]
 
-  pub one_homed : {t : ℕ} {f : Focus Act} {d e : Part} → Around K t Act f d e → one_has pool code f → part_find K pool e ≡ Some (IsPool code) → (body : Body) → homed pool f body (body_of f body)
+  pub one_homed : {t : ℕ} {f : Focus Act} {d e : Part} → Around K t Act f d e → one_has pool code f → part_find K pool e ≡ Some (IsPool code) → (body : Body)
+      → homed pool f body (body_of f body)
   unfolding one_has homed none_has
   one_homed nothing_around o p body = elim o [ ]
   one_homed {f = In fr f} (one_around a more) (inl o) p body =

@@ -158,7 +158,8 @@ module _ (m : Held → ℕ) (plain : (b : Body) (s : ℕ) (c : Cell) → is_name
   either true p q h k = h
   either false p q h k = k
 
-  body_left_keeps : (v : Bool) (c : KBlock) (fin : List KNode) (all : Instances) (f : Focus Act) (b : Body) (node : ℕ) (e : Exit) (w : World) → Ok' w → Kept (body_left v c fin all f b node e w)
+  body_left_keeps : (v : Bool) (c : KBlock) (fin : List KNode) (all : Instances) (f : Focus Act) (b : Body) (node : ℕ) (e : Exit) (w : World) → Ok' w
+      → Kept (body_left v c fin all f b node e w)
   body_left_keeps true c fin all f b node e w x = closed_keeps c fin all b (aborted (plug f Over) b w) (aborted_keeps (plug f Over) b w x)
   body_left_keeps false c fin all f b node e w x = x
 

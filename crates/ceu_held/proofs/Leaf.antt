@@ -28,7 +28,8 @@ use Rattle.ceu_held.proofs.Writes.{all_variables, parameters_are, alias_set, wri
 use Rattle.ceu_held.proofs.Aborts.{LieIn, assign_lies, assign_if_lies}
 
 module _ (K : Kernel) (g : ℕ) where
-  pub parameters_lie : (body : Body) (ds : List KDecl) (vs : List ℤ) (m : Held → ℕ) (w : World) → all_variables ds → ((h : Held) → decls_room K.codes g h body ds ≤ m h) → LieIn m w → LieIn m (set_parameters body ds vs w)
+  pub parameters_lie : (body : Body) (ds : List KDecl) (vs : List ℤ) (m : Held → ℕ) (w : World) → all_variables ds
+      → ((h : Held) → decls_room K.codes g h body ds ≤ m h) → LieIn m w → LieIn m (set_parameters body ds vs w)
   parameters_lie body [] vs m w a n l = l
   parameters_lie body (d ∷ ds) [] m w a n l = l
   parameters_lie body (d ∷ ds) (v ∷ vs) m w a n l =
@@ -78,7 +79,8 @@ module _ (K : Kernel) (proper : is_proper K ≡ true) (g : ℕ) (body : Body) (c
   loop_lie s (turns.Times slot n) = same _ tt
   loop_lie s (turns.Range i next end open_a a b open_b) = or_fails_lie (value_of a body w) _ (λ v. or_fails_lie (value_of b body w) _ (λ u. same _ tt))
 
-  called_lie : (s : KNode) (i : ℕ) (es f t : _) (o : Option KCode) (vs : List ℤ) → out-KStmt s.stmt ≡ KStmt-F.AwaitCode i es f t → code_at i K.codes ≡ o → FreshDone K g c body (called s o vs body w)
+  called_lie : (s : KNode) (i : ℕ) (es f t : _) (o : Option KCode) (vs : List ℤ) → out-KStmt s.stmt ≡ KStmt-F.AwaitCode i es f t → code_at i K.codes ≡ o
+      → FreshDone K g c body (called s o vs body w)
   unfolding focus_room
   called_lie s i es f t None vs e q = same _ tt
   called_lie s i es f t (Some k) vs e q = record {
@@ -101,7 +103,8 @@ module _ (K : Kernel) (proper : is_proper K ≡ true) (g : ℕ) (body : Body) (c
   killing_lie (Some NotSet) living = same Passes tt
   killing_lie None living = same Passes tt
 
-  spawning_lie : (sc : Scope) (s : KNode) (code pool : ℕ) (alias : Option ℕ) (o : Option KCode) (vs : List ℤ) → Own K g c sc.seen body → alias_set K (names_of K) sc code pool alias → code_at code K.codes ≡ o → FreshDone K g c body (spawning s o code pool alias vs w)
+  spawning_lie : (sc : Scope) (s : KNode) (code pool : ℕ) (alias : Option ℕ) (o : Option KCode) (vs : List ℤ) → Own K g c sc.seen body
+      → alias_set K (names_of K) sc code pool alias → code_at code K.codes ≡ o → FreshDone K g c body (spawning s o code pool alias vs w)
   spawning_lie sc s code pool alias None vs o h e = same Passes tt
   spawning_lie sc s code pool alias (Some k) vs o h e = same (Spawns s k code pool alias vs) (counts alias h, e)
     where
@@ -109,7 +112,8 @@ module _ (K : Kernel) (proper : is_proper K ≡ true) (g : ℕ) (body : Body) (c
       counts None h = tt
       counts (Some a) h = λ cell f. spawn_own K g sc.seen a code pool body c cell o h f
 
-  started_lie : (n : ℕ) (sc : Scope) (s : KNode) (layer : Layer) → Own K g c sc.seen body → Outer K g c → out-KStmt s.stmt ≡ layer → writes K (names_of K) sc layer → FreshDone K g c body (started K n body s layer w)
+  started_lie : (n : ℕ) (sc : Scope) (s : KNode) (layer : Layer) → Own K g c sc.seen body → Outer K g c → out-KStmt s.stmt ≡ layer → writes K (names_of K) sc layer
+      → FreshDone K g c body (started K n body s layer w)
   started_lie n sc s (KStmt-F.Assign l e) o u q h = or_fails_lie (value_of e body w) _ (λ v. passes (assign body l v w) (assign_lies K proper g sc l v body c w o u h x))
   started_lie n sc s (KStmt-F.Out k e) o u q h = or_fails_lie (value_if e body w) _ (λ v. passes _ x)
   started_lie n sc s (KStmt-F.Emit k e) o u q h = or_fails_lie (value_if e body w) _ (λ v. same _ tt)

@@ -28,18 +28,21 @@ abbrev pub Leaves : (K : Kernel) (g : ℕ) → (m : Held → ℕ) → Residual �
 Leaves K g m q e body = (c : Held → ℕ) (u : World) → Covers K g c e body → LieIn (λ h. m h + c h) u → LieIn c (aborted q body u)
 
 module _ (K : Kernel) (proper : is_proper K ≡ true) (g : ℕ) where
-  pub closed_lie : {t : ℕ} {sc : Scope} {all : Instances} (turn : Bool) (b : KBlock) (fin : List KNode) (body : Body) (c : Held → ℕ) (w : World) → AllFit K t sc all → Covers K g c (ABlock turn sc b) body → nodes_fine K (names_of K) (block_scope sc b) fin
+  pub closed_lie : {t : ℕ} {sc : Scope} {all : Instances} (turn : Bool) (b : KBlock) (fin : List KNode) (body : Body) (c : Held → ℕ) (w : World)
+      → AllFit K t sc all → Covers K g c (ABlock turn sc b) body → nodes_fine K (names_of K) (block_scope sc b) fin
       → LieIn (λ h. all_room K.codes g h all + (decls_room K.codes g h body (out-KBlock b).decls + c h)) w → LieIn c (closed b fin all body w)
   closed_lie {sc = sc} {all = all} turn b fin body c w fit o f x =
       let out = outer_inside K g b body c o.1 in
       ends_lie K proper g sc b fin body c (instances_aborted all w) o.0 out f (all_lie K proper g fit (λ h. decls_room K.codes g h body (out-KBlock b).decls + c h) w out x)
 
-  each_parts : (sc : Scope) (bs : List KBlock) (b : KBlock) (cs : List KBlock) → each_fine K (names_of K) sc (bs ++ b ∷ cs) → each_fine K (names_of K) sc bs × each_fine K (names_of K) sc cs
+  each_parts : (sc : Scope) (bs : List KBlock) (b : KBlock) (cs : List KBlock) → each_fine K (names_of K) sc (bs ++ b ∷ cs)
+      → each_fine K (names_of K) sc bs × each_fine K (names_of K) sc cs
   each_parts sc [] b cs h = (tt, h.1)
   each_parts sc (x ∷ bs) b cs h = let a = each_parts sc bs b cs h.1 in ((h.0, a.0), a.1)
 
   -- the branches before and after one that is aborted between them
-  pub branches_lie : {t : ℕ} {sc : Scope} {k : ParKind} {bs cs : List KBlock} {front back : Branches} (b : KBlock) (m : Held → ℕ) (q : Residual) (body : Body) (c : Held → ℕ) (w : World) → EachFits K t sc k bs front → EachFits K t sc k cs back
+  pub branches_lie : {t : ℕ} {sc : Scope} {k : ParKind} {bs cs : List KBlock} {front back : Branches} (b : KBlock) (m : Held → ℕ) (q : Residual) (body : Body) (c : Held → ℕ) (w : World)
+      → EachFits K t sc k bs front → EachFits K t sc k cs back
       → each_fine K (names_of K) sc (bs ++ b ∷ cs) → Own K g c sc.seen body → Outer K g c → Leaves K g m q (ABlock false sc b) body
       → LieIn (λ h. each_room K.codes g h front body + each_room K.codes g h back body + m h + c h) w → LieIn c (branches_aborted (join front (branch q back)) body w)
   unfolding aborted
@@ -49,12 +52,13 @@ module _ (K : Kernel) (proper : is_proper K ≡ true) (g : ℕ) where
       let e : Held → ℕ = λ h. m h + d h in
       let w1 = branches_aborted back body w in
       let x1 = each_lie K proper g z f.1 body e w (own_more K g c e sc.seen body (λ h n. omega (arith, n)) o) (own_more K g c e (program_seen K g) Program (λ h n. omega (arith, n)) u)
-          (lie_more (λ h. each_room K.codes g h front body + each_room K.codes g h back body + m h + c h) (λ h. each_room K.codes g h back body + e h) (λ h n. omega (arith, n)) w.values x) in
+      (lie_more (λ h. each_room K.codes g h front body + each_room K.codes g h back body + m h + c h) (λ h. each_room K.codes g h back body + e h) (λ h n. omega (arith, n)) w.values x) in
       let x2 = ih d w1 (own_more K g c d sc.seen body (λ h n. omega (arith, n)) o, inl (own_more K g c d (program_seen K g) Program (λ h n. omega (arith, n)) u)) x1 in
       subst (LieIn c) (sym (branches_joined front (branch q back) body w)) (each_lie K proper g y f.0 body c (aborted q body w1) o u x2)
 
   -- the instances before and after one that is aborted between them
-  instances_lie : {t : ℕ} {sc : Scope} {front back : Instances} (seat : Seat) (k : KCode) (m : Held → ℕ) (q : Residual) (c : Held → ℕ) (w : World) → AllFit K t sc front → AllFit K t sc back → code_at seat.code K.codes ≡ Some k → Outer K g c
+  instances_lie : {t : ℕ} {sc : Scope} {front back : Instances} (seat : Seat) (k : KCode) (m : Held → ℕ) (q : Residual) (c : Held → ℕ) (w : World)
+      → AllFit K t sc front → AllFit K t sc back → code_at seat.code K.codes ≡ Some k → Outer K g c
       → Leaves K g m q (code_part K seat.code k) (Spawned seat.number)
       → LieIn (λ h. all_room K.codes g h front + (code_room K.codes g h (Spawned seat.number) (code_at seat.code K.codes) + all_room K.codes g h back) + m h + c h) w → LieIn c (instances_aborted (join_instances front (instance seat q back)) w)
   unfolding aborted
@@ -66,18 +70,19 @@ module _ (K : Kernel) (proper : is_proper K ≡ true) (g : ℕ) where
       let v : Held → ℕ = λ h. m h + e h in
       let w1 = instances_aborted back w in
       let x1 = all_lie K proper g z v w (own_more K g c v (program_seen K g) Program (λ h n. omega (arith, n)) u)
-          (lie_more (λ h. all_room K.codes g h front + (code h + all_room K.codes g h back) + m h + c h) (λ h. all_room K.codes g h back + v h) (λ h n. omega (arith, n)) w.values x) in
+      (lie_more (λ h. all_room K.codes g h front + (code h + all_room K.codes g h back) + m h + c h) (λ h. all_room K.codes g h back + v h) (λ h n. omega (arith, n)) w.values x) in
       let x2 = ih e w1 (own_more K g code e (code_scope K seat.code k).seen body (λ h n. omega (arith, n)) (code_own K g seat.code k body r), inl (own_more K g c e (program_seen K g) Program (λ h n. omega (arith, n)) u)) x1 in
       let x3 = lie_forget_body K.codes g body (code_at seat.code K.codes) d (aborted q body w1) x2 in
       subst (LieIn c) (sym (instances_joined front (instance seat q back) w)) (all_lie K proper g y c (dead seat.number (aborted q body w1)) u x3)
 
-  frame_leaves : {t : ℕ} {fr : Frame} {d e : Part} → FrameFits K t fr d e → Sound K proper d → (m : Held → ℕ) (q : Residual) (body : Body) → Leaves K g m q e (body_in fr body)
+  frame_leaves : {t : ℕ} {fr : Frame} {d e : Part} → FrameFits K t fr d e → Sound K proper d → (m : Held → ℕ) (q : Residual) (body : Body)
+      → Leaves K g m q e (body_in fr body)
       → (c : Held → ℕ) (w : World) → Covers K g c d body → LieIn (λ h. frame_room K.codes g h fr body + m h + c h) w → LieIn c (aborted (fill fr q) body w)
   unfolding aborted
   frame_leaves {fr = OfBlock b fin all rest} (around_statement {turn = turn} {sc = sc} {s = s} done e f fit) h m q body ih c w o x =
       let i : Held → ℕ = λ h. frame_room K.codes g h (OfBlock b fin all rest) body + c h in
       let x1 = ih i w (frame_covers K g {fr = OfBlock b fin all rest} {d = ABlock turn sc b} {e = AStatement (block_scope sc b) s} (around_statement done e f fit) c body o)
-          (lie_more (λ h. frame_room K.codes g h (OfBlock b fin all rest) body + m h + c h) (λ h. m h + i h) (λ h n. omega (arith, n)) w.values x) in
+      (lie_more (λ h. frame_room K.codes g h (OfBlock b fin all rest) body + m h + c h) (λ h. m h + i h) (λ h n. omega (arith, n)) w.values x) in
       closed_lie turn b fin body c (aborted q body w) fit o (registered_fine K proper g sc b fin done (s ∷ rest) h e f)
       (lie_more i (λ h. all_room K.codes g h all + (decls_room K.codes g h body (out-KBlock b).decls + c h)) (λ h n. omega (arith, n)) (aborted q body w).values x1)
   frame_leaves {fr = OfBlock b fin all rest} (around_end {turn = turn} {sc = sc} f fit) h m q body ih c w o x =
@@ -91,8 +96,8 @@ module _ (K : Kernel) (proper : is_proper K ≡ true) (g : ℕ) where
       let v : Held → ℕ = λ h. all_room K.codes g h front + (code_room K.codes g h (Spawned seat.number) (code_at seat.code K.codes) + all_room K.codes g h back) + m h + d h in
       let w1 = aborted r body w in
       let x1 = aborted_lie K proper g fit (list_sound K proper sc b done s rest h e) body v w
-          (own_more K g d v (block_scope sc b).seen body (λ h n. omega (arith, n)) (block_own K g sc b body c o.0), own_more K g d v (program_seen K g) Program (λ h n. omega (arith, n)) out)
-          (lie_more (λ h. frame_room K.codes g h (OfInstance b fin front seat back r rest) body + m h + c h) (λ h. room K.codes g h r body + v h) (λ h n. omega (arith, n)) w.values x) in
+      (own_more K g d v (block_scope sc b).seen body (λ h n. omega (arith, n)) (block_own K g sc b body c o.0), own_more K g d v (program_seen K g) Program (λ h n. omega (arith, n)) out)
+      (lie_more (λ h. frame_room K.codes g h (OfInstance b fin front seat back r rest) body + m h + c h) (λ h. room K.codes g h r body + v h) (λ h n. omega (arith, n)) w.values x) in
       ends_lie K proper g sc b fin body c (instances_aborted (join_instances front (instance seat q back)) w1) o.0 out (registered_fine K proper g sc b fin done (s ∷ rest) h e f)
       (instances_lie seat k m q d w1 y z code out ih x1)
   frame_leaves {fr = OfOpen s} (around_part {sc = sc} b p) h m q body ih c w o x =
@@ -110,7 +115,8 @@ module _ (K : Kernel) (proper : is_proper K ≡ true) (g : ℕ) where
   frame_leaves {fr = OfPar s front back} (around_branch {sc = sc} k slot bs b cs e y z) h m q body ih c w o x =
       branches_lie b m q body c w y z (layer_of K proper sc s (KStmt-F.Par k slot (bs ++ b ∷ cs)) e h).1 o.0 o.1 ih x
 
-  pub focus_leaves : {t : ℕ} {f : Focus Act} {d e : Part} → Around K t Act f d e → Sound K proper d → (body : Body) → Leaves K g (λ h. focus_room K.codes g h f body) (plug f Over) d body
+  pub focus_leaves : {t : ℕ} {f : Focus Act} {d e : Part} → Around K t Act f d e → Sound K proper d → (body : Body)
+      → Leaves K g (λ h. focus_room K.codes g h f body) (plug f Over) d body
   unfolding aborted focus_room
   focus_leaves nothing_around h body c w o x = lie_rest c w x
   focus_leaves {f = In fr f} (one_around a more) h body c w o x =

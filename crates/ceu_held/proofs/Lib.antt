@@ -23,4 +23,7 @@ pub mod NameSteps
 pub mod NamesFit
 pub mod NameRuns
 pub mod NameCommands
+pub mod Typing
+pub mod Starts
+pub mod Aims
 pub mod Runs

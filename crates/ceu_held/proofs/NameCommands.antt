@@ -39,7 +39,8 @@ use Rattle.ceu_held.proofs.Aborts.{LieIn}
 use Rattle.ceu_held.proofs.Given.{does_given}
 use Rattle.ceu_held.proofs.Kept.{is_name, killed_keeps, answered_keeps, acted_keeps}
 use Rattle.ceu_held.proofs.Seats.{each_seat, Calm, plug_seats, unplug_seats, leaves_seats}
-use Rattle.ceu_held.proofs.Agree.{low, one, agrees, plain_agrees, tests_more}
+use Rattle.ceu_held.specs.Names.{low, one, agrees}
+use Rattle.ceu_held.proofs.Agree.{plain_agrees, tests_more}
 use Rattle.ceu_held.proofs.NameRuns.{TreeNames, ConfigNames, lower, same_names, steps_names}
 
 -- ---- changes of leaves
@@ -68,7 +69,8 @@ unfolding each_seat
 round_seats P (InAsync s b r) body h = tt
 round_seats P r body h = h
 
-leaves_names : (K : Kernel) (c : Residual → Residual) (r : Residual) (w : World) → ((P : Seated → Type 0) → Calm P c) → TreeNames K r w → TreeNames K (each_leaf c r) w
+leaves_names : (K : Kernel) (c : Residual → Residual) (r : Residual) (w : World) → ((P : Seated → Type 0) → Calm P c) → TreeNames K r w
+    → TreeNames K (each_leaf c r) w
 leaves_names K c r w calm h = same_names K r (each_leaf c r) w (λ P e. leaves_seats P c (calm P) r Program e) h
 
 -- ---- where nothing is spawned, no value names an instance anew
@@ -235,15 +237,18 @@ module _ (K : Kernel) where
         go AtLoopHead y ih = kept
         go (Leaves node e) y ih = kept
 
-    first_keeps : (k : ℕ) (root : Body) (p : Option (Focus Act)) (r : Residual) (w : World) (d : Part) → AsyncPart K proper d → ChoiceFits K 1 Act (runs_at 0) d p → ServedKeeps w (serve_first K k root p r w)
+    first_keeps : (k : ℕ) (root : Body) (p : Option (Focus Act)) (r : Residual) (w : World) (d : Part) → AsyncPart K proper d → ChoiceFits K 1 Act (runs_at 0) d p
+        → ServedKeeps w (serve_first K k root p r w)
     first_keeps k root None r w d a t = record { given = omega arith; values = λ m plain l. l }
     first_keeps k root (Some f) r w d a t = serve_keeps k root f w d a (turn_of_chosen K proper 0 d f t)
 
     -- an async has no seats
-    async_seats : (o : Focus Unserved) (r q : Residual) (x : FoundIn Unserved unserved r (Some o)) → ((P : Seated → Type 0) → each_seat P q (body_of o Program)) → (P : Seated → Type 0) → each_seat P r Program → each_seat P (plug o q) Program
+    async_seats : (o : Focus Unserved) (r q : Residual) (x : FoundIn Unserved unserved r (Some o)) → ((P : Seated → Type 0) → each_seat P q (body_of o Program))
+        → (P : Seated → Type 0) → each_seat P r Program → each_seat P (plug o q) Program
     async_seats o r q x f P e = plug_seats P o q Program (unplug_seats P o x.was Program (subst (λ y. each_seat P y Program) (sym x.plugs) e)).0 (f P)
 
-    after_names : (k : ℕ) (o : Focus Unserved) (x : Served) (r : Residual) (w : World) (sc : Scope) (b : KBlock) → Around K 0 Unserved o (program_part K) (AStatement sc (leaf o).stmt) → out-KStmt (leaf o).stmt.stmt ≡ KStmt-F.Async b
+    after_names : (k : ℕ) (o : Focus Unserved) (x : Served) (r : Residual) (w : World) (sc : Scope) (b : KBlock)
+        → Around K 0 Unserved o (program_part K) (AStatement sc (leaf o).stmt) → out-KStmt (leaf o).stmt.stmt ≡ KStmt-F.Async b
         → FoundIn Unserved unserved r (Some o) → ConfigCounts (after_serving K 0 o x r w) → TreeNames K r w → ServedKeeps w x → ConfigNames K (after_serving K k o x r w)
     unfolding each_seat steps
     after_names k o Unfinished r w sc b a e f z h s = h
@@ -253,7 +258,8 @@ module _ (K : Kernel) where
         (same_names K r (plug o (Run 0 (Finish (leaf o).stmt (pos 0)))) u (async_seats o r (Run 0 (Finish (leaf o).stmt (pos 0))) f (λ P. tt)) (kept_names r w u s h))
     after_names k o (Failed y q u) r w sc b a e f z h s = tt
 
-    served_names : (k : ℕ) (p : Option (Focus Unserved)) (r : Residual) (w : World) → ChoiceFits K 0 Unserved unserved (program_part K) p → FoundIn Unserved unserved r p → TreeCounts r w → TreeNames K r w → ConfigNames K (served K k p r w)
+    served_names : (k : ℕ) (p : Option (Focus Unserved)) (r : Residual) (w : World) → ChoiceFits K 0 Unserved unserved (program_part K) p
+        → FoundIn Unserved unserved r p → TreeCounts r w → TreeNames K r w → ConfigNames K (served K k p r w)
     served_names k None r w t x z h = h
     served_names k (Some o) r w t x z h =
         let l = async_leaf K proper t.part t.was (leaf o) t.fits t.picked in
@@ -268,9 +274,9 @@ module _ (K : Kernel) where
         let c = choice_fits K 1 Act (runs_at 0) l.fits in
         let d = choose_found Act (runs_at 0) (leaf o).inner in
         let counts = first_counts K proper (λ i. live_focus i o) k (body_of o Program) q (leaf o).inner w _ p c d
-            (counts_same (λ i. lives i r) (λ i. lives i (leaf o).inner + live_focus i o) w w (record { living = refl; given = refl })
-            (λ i. (let u = plug_lives i o x.was in let v = unserved_lives K proper i x.was (leaf o) x.picked in let y = ap (lives i) x.plugs in omega (arith, u, v, y))) z.0)
-            (unserved_stands K proper x.was (leaf o) x.picked f.1) in
+        (counts_same (λ i. lives i r) (λ i. lives i (leaf o).inner + live_focus i o) w w (record { living = refl; given = refl })
+        (λ i. (let u = plug_lives i o x.was in let v = unserved_lives K proper i x.was (leaf o) x.picked in let y = ap (lives i) x.plugs in omega (arith, u, v, y))) z.0)
+        (unserved_stands K proper x.was (leaf o) x.picked f.1) in
         after_names k o _ r w l.scope l.block a l.layer x (after_counts K proper 0 o _ r w l.scope l.block a l.layer f.0 z counts) h (first_keeps k (body_of o Program) q (leaf o).inner w _ p c)
 
     idle_turn_names : (k : ℕ) (c : Config) → ConfigFits K c → ConfigCounts c → ConfigNames K c → ConfigNames K (idle_turn K k c)

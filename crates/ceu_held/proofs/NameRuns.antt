@@ -36,11 +36,12 @@ use Rattle.ceu_living.proofs.Reactions.{ConfigCounts, room_fine, next_counts, in
 use Rattle.ceu_held.proofs.Slots.{once}
 use Rattle.ceu_held.proofs.Aborts.{LieIn}
 use Rattle.ceu_held.proofs.Writes.{alias_set, writes, at_writes}
-use Rattle.ceu_held.proofs.Rows.{rows, kind_at}
+use Rattle.ceu_held.specs.Declared.{rows, kind_at}
 use Rattle.ceu_held.proofs.Known.{KnownSeen, Known, program_known, around_known}
 use Rattle.ceu_held.proofs.Seats.{each_seat, plug_seats, unplug_seats}
 use Rattle.ceu_held.proofs.Homed.{one_homed}
-use Rattle.ceu_held.proofs.Agree.{low, one, agrees, listed, seated_list, numbers_low, tests_more}
+use Rattle.ceu_held.specs.Names.{low, one, agrees}
+use Rattle.ceu_held.proofs.Agree.{listed, seated_list, numbers_low, tests_more}
 use Rattle.ceu_held.proofs.NameSteps.{out_seats, alias_known, SpawnKnown, stepped_names}
 
 module _ (K : Kernel) where
@@ -74,7 +75,8 @@ module _ (K : Kernel) where
   SpawnAlias d = Unit {0}
 
   module _ (proper : is_proper K ≡ true) where
-    alias_seen : (seen : List Seen) (code pool a : ℕ) → KnownSeen K proper seen → alias_takes code pool (find a seen) ≡ true → alias_takes code pool (kind_at a (rows K)) ≡ true
+    alias_seen : (seen : List Seen) (code pool a : ℕ) → KnownSeen K proper seen → alias_takes code pool (find a seen) ≡ true
+        → alias_takes code pool (kind_at a (rows K)) ≡ true
     alias_seen seen code pool a k e = go (find a seen) refl e
       where
         go : (o : Option SlotKind) → find a seen ≡ o → alias_takes code pool o ≡ true → alias_takes code pool (kind_at a (rows K)) ≡ true
@@ -107,7 +109,8 @@ module _ (K : Kernel) where
       called_alias s None vs = tt
       called_alias s (Some k) vs = tt
 
-      spawning_alias : (sc : Scope) (s : KNode) (c p : ℕ) (a : Option ℕ) (o : Option KCode) (vs : List ℤ) → KnownSeen K proper sc.seen → alias_set K (names_of K) sc c p a → SpawnAlias (spawning s o c p a vs w).does
+      spawning_alias : (sc : Scope) (s : KNode) (c p : ℕ) (a : Option ℕ) (o : Option KCode) (vs : List ℤ) → KnownSeen K proper sc.seen
+          → alias_set K (names_of K) sc c p a → SpawnAlias (spawning s o c p a vs w).does
       spawning_alias sc s c p a None vs k h = tt
       spawning_alias sc s c p a (Some x) vs k h = known a h
         where
@@ -115,7 +118,8 @@ module _ (K : Kernel) where
           known None h = tt
           known (Some a) h = alias_seen sc.seen c p a k h
 
-      started_alias : (n : ℕ) (sc : Scope) (s : KNode) (layer : Layer) → KnownSeen K proper sc.seen → writes K (names_of K) sc layer → SpawnAlias (started K n body s layer w).does
+      started_alias : (n : ℕ) (sc : Scope) (s : KNode) (layer : Layer) → KnownSeen K proper sc.seen → writes K (names_of K) sc layer
+          → SpawnAlias (started K n body s layer w).does
       started_alias n sc s (KStmt-F.Assign l x) k h = or_fails_alias (value_of x body w) _ (λ v. tt)
       started_alias n sc s (KStmt-F.Out i x) k h = or_fails_alias (value_if x body w) _ (λ v. tt)
       started_alias n sc s (KStmt-F.Emit i x) k h = or_fails_alias (value_if x body w) _ (λ v. tt)
@@ -137,7 +141,8 @@ module _ (K : Kernel) where
       acted_alias n d (Finish s v) h (finishes p) k = tt
       acted_alias n d AtEnd h ends k = tt
 
-    spawn_known : {t : ℕ} {f : Focus Act} {e : Part} (x : Does) → Around K t Act f (program_part K) e → SpawnFine f x → Room K proper e x → SpawnAlias x → SpawnKnown K f Program x
+    spawn_known : {t : ℕ} {f : Focus Act} {e : Part} (x : Does) → Around K t Act f (program_part K) e → SpawnFine f x → Room K proper e x → SpawnAlias x
+        → SpawnKnown K f Program x
     spawn_known (does.Spawns s c code pool alias vs) a fine room z = (one_homed K pool proper code a fine room.1 Program, z)
     spawn_known (does.Opens y) a fine room z = tt
     spawn_known (does.Waits r) a fine room z = tt

@@ -24,15 +24,17 @@ use Rattle.ceu_held.proofs.Slots.{once}
 use Rattle.ceu_held.proofs.Values.{held, lie_put}
 use Rattle.ceu_held.proofs.Aborts.{LieIn}
 use Rattle.ceu_held.proofs.Given.{does_given}
-use Rattle.ceu_held.proofs.Rows.{rows, kind_at}
+use Rattle.ceu_held.specs.Declared.{rows, kind_at}
 use Rattle.ceu_held.proofs.Kept.{is_name, set_keeps, parameters_keep, killed_keeps, answered_keeps, acted_keeps}
 use Rattle.ceu_held.proofs.Seats.{at_seat, each_seat, focus_seats, Calm, plug_seats, unplug_seats, graft_seats, woken_seats, unseat_seats, frame_takes, focus_takes, seated_seats}
 use Rattle.ceu_held.proofs.SeatsUp.{OutcomeSeats, Fresh, answered_seats, acted_seats}
 use Rattle.ceu_held.proofs.Homed.{frame_homed, homed}
-use Rattle.ceu_held.proofs.Agree.{names, low, names_number, suits, one, agrees, plain_agrees, listed, seated_list, tests_more}
+use Rattle.ceu_held.specs.Names.{names, low, suits, one, agrees}
+use Rattle.ceu_held.proofs.Agree.{names_number, plain_agrees, listed, seated_list, tests_more}
 
 -- a block around the leaf that has the pool is of the leaf's body
-takes_homed : (P : Seated → Type 0) (seat : Seat) (r : Residual) (inside : each_seat P r (InstanceBody seat.number)) (f : Focus Act) (body home : Body) → homed seat.pool f body home → P (at_seat seat home) → focus_takes P seat r inside f body
+takes_homed : (P : Seated → Type 0) (seat : Seat) (r : Residual) (inside : each_seat P r (InstanceBody seat.number)) (f : Focus Act) (body home : Body)
+    → homed seat.pool f body home → P (at_seat seat home) → focus_takes P seat r inside f body
 unfolding homed focus_takes
 takes_homed P seat r inside (Here a) body home h p = tt
 takes_homed P seat r inside (In fr f) body home h p = (frame fr h.0, takes_homed P seat r inside f (body_in fr body) home h.1 p)
@@ -110,7 +112,8 @@ module _ (K : Kernel) where
         go false z = refl
         go true z = absurd (let y = eqb-true x.seat.number number z in let l = leb-true x.seat.number g e in omega (arith, y, l, q))
 
-    spawned_names : (s : KNode) (c : KCode) (code pool place : ℕ) (alias : Option ℕ) (vs : List ℤ) (w : World) → homed pool f root (body_of f root) → alias_known code pool alias → list_all (λ x. nat_le x.seat.number w.given) (seats (plug f Over) root) ≡ true → Before w
+    spawned_names : (s : KNode) (c : KCode) (code pool place : ℕ) (alias : Option ℕ) (vs : List ℤ) (w : World) → homed pool f root (body_of f root)
+        → alias_known code pool alias → list_all (λ x. nat_le x.seat.number w.given) (seats (plug f Over) root) ≡ true → Before w
         → After (spawned_at n (body_of f root) f s c code pool place alias vs w)
     unfolding each_seat
     spawned_names s c code pool place alias vs w home known few h = go (w.given == 4294967295)
@@ -180,7 +183,8 @@ module _ (K : Kernel) where
         aliased None e = old
         aliased (Some a) e = lie_put m body a (Names number) w.values (new a e) old
 
-        go : (b : Bool) → After (if b then moved (Fails (SpawnCount, s.pos) (plug f Over)) w else moved (Raises tree) (marked (mark.Push (n + 1)) (marked (mark.Spawned number) u)))
+        go : (b : Bool)
+            → After (if b then moved (Fails (SpawnCount, s.pos) (plug f Over)) w else moved (Raises tree) (marked (mark.Push (n + 1)) (marked (mark.Spawned number) u)))
         go true = tests_more (agrees K w.given (seats (plug f Over) root)) (agrees K w.given []) (λ k e. and_from (low w.given k.cell) true (and_parts (low w.given k.cell) (list_all (one K k) (seats (plug f Over) root)) e).0 refl) w.values h
         go false = parameters_keep m (plain_agrees K u.given found) (InstanceBody number) c.params vs v1 (aliased alias known)
 
@@ -189,7 +193,8 @@ module _ (K : Kernel) where
     answers w x k more fine kept h =
         plainly w (answered root f x k) more (λ P s. answered_seats P root f x k s (fine P)) (λ c plain l. answered_keeps c plain root f x k (kept c plain l)) h
 
-    does_names : (d : Does) (w : World) → ((P : Seated → Type 0) → Fresh P d (body_of f root)) → SpawnKnown f root d → list_all (λ x. nat_le x.seat.number w.given) (seats (plug f Over) root) ≡ true → Before w → After (does_in K n root (body_of f root) f d w)
+    does_names : (d : Does) (w : World) → ((P : Seated → Type 0) → Fresh P d (body_of f root)) → SpawnKnown f root d
+        → list_all (λ x. nat_le x.seat.number w.given) (seats (plug f Over) root) ≡ true → Before w → After (does_in K n root (body_of f root) f d w)
     unfolding each_seat
     does_names (does.Opens x) w fresh k few h = plainly w (does_in K n root (body_of f root) f (does.Opens x) w) (does_given K n root (body_of f root) f (does.Opens x) w) (λ P s. graft_seats P f x root s (fresh P)) (λ c plain l. l) h
     does_names (does.Waits r) w fresh k few h = plainly w (does_in K n root (body_of f root) f (does.Waits r) w) (does_given K n root (body_of f root) f (does.Waits r) w) (λ P s. plug_seats P f r root s (fresh P)) (λ c plain l. l) h
@@ -203,7 +208,8 @@ module _ (K : Kernel) where
         (λ P z. woken_seats P (by_event (n + 1) event v) (by_event_seats P (n + 1) event v) (event_code event K.events) f (Run n (Finish s (pos 0))) root z tt) (λ c plain l. l) h
     does_names (does.Spawns s c code pool alias vs) w fresh k few h = go (free_place pool f) (does_given K n root (body_of f root) f (does.Spawns s c code pool alias vs) w)
       where
-        unset : (o : Option ℕ) (m : Held → ℕ) → ((b : Body) (s : ℕ) (x : Cell) → is_name x ≡ false → 1 ≤ m (held b s x)) → LieIn m w → LieIn m (set_alias (body_of f root) o NotSet w)
+        unset : (o : Option ℕ) (m : Held → ℕ) → ((b : Body) (s : ℕ) (x : Cell) → is_name x ≡ false → 1 ≤ m (held b s x)) → LieIn m w
+            → LieIn m (set_alias (body_of f root) o NotSet w)
         unset None m plain l = l
         unset (Some a) m plain l = set_keeps m plain (body_of f root) a NotSet w refl l
 
@@ -225,7 +231,8 @@ module _ (K : Kernel) where
     does_names (does.Fails e) w fresh k few h =
         plainly w (does_in K n root (body_of f root) f (does.Fails e) w) (does_given K n root (body_of f root) f (does.Fails e) w) (λ P s. plug_seats P f Over root s tt) (λ c plain l. l) h
 
-    pub stepped_names : (w : World) → SpawnKnown f root (acted K n (body_of f root) (leaf f) w).does → list_all (λ x. nat_le x.seat.number w.given) (seats (plug f Over) root) ≡ true → Before w → After (stepped K n root f w)
+    pub stepped_names : (w : World) → SpawnKnown f root (acted K n (body_of f root) (leaf f) w).does
+        → list_all (λ x. nat_le x.seat.number w.given) (seats (plug f Over) root) ≡ true → Before w → After (stepped K n root f w)
     unfolding stepped
     stepped_names w k few h =
         let d = acted K n (body_of f root) (leaf f) w in

@@ -24,10 +24,11 @@ use Rattle.ceu_held.proofs.Slots.{once}
 use Rattle.ceu_held.proofs.Values.{held, Lie, held_at}
 use Rattle.ceu_held.proofs.Covers.{slot_is}
 use Rattle.ceu_held.proofs.Writes.{all_variables, parameters_are}
-use Rattle.ceu_held.proofs.Rows.{inner_pools, decl_rows, block_rows, rows, Among, Incl, incl_left, incl_right, blocks_all_rows, kind_at, kind_of_row}
+use Rattle.ceu_held.specs.Declared.{inner_pools, decl_rows, block_rows, rows, kind_at}
+use Rattle.ceu_held.proofs.Rows.{Among, Incl, incl_left, incl_right, blocks_all_rows, kind_of_row}
 use Rattle.ceu_held.proofs.Known.{row, seen_pools, KnownSeen, Known, decls_known, list_known, parts_known, part_known, turn_known, async_known, code_known}
 use Rattle.ceu_held.proofs.Fitting.{EachKind, look_kind, one_kind}
-use Rattle.ceu_held.proofs.Agree.{low, suits, one, agrees}
+use Rattle.ceu_held.specs.Names.{low, suits, one, agrees}
 
 all_more : (p q : Seated → Bool) → ((x : Seated) → p x ≡ true → q x ≡ true) → (xs : List Seated) → list_all p xs ≡ true → list_all q xs ≡ true
 all_more p q f [] e = refl
@@ -38,7 +39,8 @@ no_pools [] h = refl
 no_pools (d ∷ ds) h = ap (λ k. elim k [ kind.Pool n c ↦ d.slot ∷ pool_slots ds | _ ↦ pool_slots ds ]) h.0.1 ∙ no_pools ds h.1
 
 module _ (K : Kernel) (proper : is_proper K ≡ true) (w : World) (found : List Seated) (kinds : EachKind K proper w.given w.values) (agreed : Lie (λ h. once (agrees K w.given found h)) w.values) where
-  look_agrees : (body : Body) (slot : ℕ) (c : Cell) (hs : List Held) → Lie (λ h. once (agrees K w.given found h)) hs → look body slot hs ≡ Some c → agrees K w.given found (held body slot c) ≡ true
+  look_agrees : (body : Body) (slot : ℕ) (c : Cell) (hs : List Held) → Lie (λ h. once (agrees K w.given found h)) hs → look body slot hs ≡ Some c
+      → agrees K w.given found (held body slot c) ≡ true
   look_agrees body slot c [] l e = absurd (cc)
   look_agrees body slot c (h ∷ hs) l e = go (is_at body slot h) refl e (look_agrees body slot c hs l.1)
     where
@@ -46,22 +48,26 @@ module _ (K : Kernel) (proper : is_proper K ≡ true) (w : World) (found : List 
       passed true n = refl
       passed false n = absurd (omega (arith, n))
 
-      go : (b : Bool) → is_at body slot h ≡ b → (if b then Some h.cell else look body slot hs) ≡ Some c → (look body slot hs ≡ Some c → agrees K w.given found (held body slot c) ≡ true) → agrees K w.given found (held body slot c) ≡ true
+      go : (b : Bool) → is_at body slot h ≡ b → (if b then Some h.cell else look body slot hs) ≡ Some c
+          → (look body slot hs ≡ Some c → agrees K w.given found (held body slot c) ≡ true) → agrees K w.given found (held body slot c) ≡ true
       go true q z ih = subst (λ x. agrees K w.given found x ≡ true) (sym (held_at body slot h.cell h q) ∙ ap (held body slot) (ap (λ o. elim o [ None ↦ h.cell | Some x ↦ x ]) z)) (passed (agrees K w.given found h) l.0)
       go false q z ih = ih z
 
-  one_suits : (body : Body) (slot code k : ℕ) (pools : List ℕ) (x : Seated) → kind_at slot (rows K) ≡ Some (IsAlias code pools) → one K (held body slot (Names k)) x ≡ true
+  one_suits : (body : Body) (slot code k : ℕ) (pools : List ℕ) (x : Seated) → kind_at slot (rows K) ≡ Some (IsAlias code pools)
+      → one K (held body slot (Names k)) x ≡ true
       → (not (x.seat.number == k) || ((x.seat.code == code) && is_member x.seat.pool pools && same_body x.body body)) ≡ true
   one_suits body slot code k pools x e h = go (x.seat.number == k) h
     where
-      go : (b : Bool) → (not b || suits K (held body slot (Names k)) x) ≡ true → (not b || ((x.seat.code == code) && is_member x.seat.pool pools && same_body x.body body)) ≡ true
+      go : (b : Bool) → (not b || suits K (held body slot (Names k)) x) ≡ true
+          → (not b || ((x.seat.code == code) && is_member x.seat.pool pools && same_body x.body body)) ≡ true
       go false q = refl
       go true q =
           let a = and_parts (alias_takes x.seat.code x.seat.pool (kind_at slot (rows K))) (same_body x.body body) q in
           let t = and_parts (code == x.seat.code) (is_member x.seat.pool pools) (sym (ap (alias_takes x.seat.code x.seat.pool) e) ∙ a.0) in
           and_from _ (same_body x.body body) (and_from (x.seat.code == code) (is_member x.seat.pool pools) (eq-eqb x.seat.code code (sym (eqb-true code x.seat.code t.0))) t.1) a.1
 
-  alias_fits : (body : Body) (slot code : ℕ) (pools : List ℕ) → Among (row slot (IsAlias code pools)) (rows K) → cell_agrees K w found body code pools (look body slot w.values) ≡ true
+  alias_fits : (body : Body) (slot code : ℕ) (pools : List ℕ) → Among (row slot (IsAlias code pools)) (rows K)
+      → cell_agrees K w found body code pools (look body slot w.values) ≡ true
   alias_fits body slot code pools m = go (look body slot w.values) refl
     where
       there : kind_at slot (rows K) ≡ Some (IsAlias code pools)
@@ -108,7 +114,8 @@ module _ (K : Kernel) (proper : is_proper K ≡ true) (w : World) (found : List 
   mutual
     unfolding names_agree
 
-    pub tree_names : {t : ℕ} {d : Part} {r : Residual} → Fits K t d r → Known K proper d → (body : Body) (ps : List ℕ) → PartPools d ps → names_agree K w found r body ps ≡ true
+    pub tree_names : {t : ℕ} {d : Part} {r : Residual} → Fits K t d r → Known K proper d → (body : Body) (ps : List ℕ) → PartPools d ps
+        → names_agree K w found r body ps ≡ true
     tree_names (to_begin n) i body ps p = refl
     tree_names (to_turn n q) i body ps p = refl
     tree_names (in_list {turn = turn} {sc = sc} {b = b} {rest = rest} {r = r} {s = s} done e f fit more) i body ps p =
@@ -128,7 +135,9 @@ module _ (K : Kernel) (proper : is_proper K ≡ true) (w : World) (found : List 
     tree_names (in_call {s = s} c es f y k e q more) i body ps p = tree_names more (code_known K proper c k q) (Awaited body s.node) [] (code_pools_none c k q)
     tree_names (in_par {sc = sc} {s = s} k slot bs e q more) i body ps p = each_names more (parts_known K proper (pools_seen sc.seen) s (KStmt-F.Par k slot bs) e i.0) i.1 body ps p
 
-    each_names : {t : ℕ} {sc : Scope} {k : ParKind} {bs : List KBlock} {rs : Branches} → EachFits K t sc k bs rs → Incl (blocks_all_rows (pools_seen sc.seen) bs) (rows K) → KnownSeen K proper sc.seen → (body : Body) (ps : List ℕ) → pools_seen sc.seen ≡ ps → branches_agree K w found rs body ps ≡ true
+    each_names : {t : ℕ} {sc : Scope} {k : ParKind} {bs : List KBlock} {rs : Branches} → EachFits K t sc k bs rs
+        → Incl (blocks_all_rows (pools_seen sc.seen) bs) (rows K) → KnownSeen K proper sc.seen → (body : Body) (ps : List ℕ) → pools_seen sc.seen ≡ ps
+        → branches_agree K w found rs body ps ≡ true
     each_names no_more i j body ps p = refl
     each_names {sc = sc} (an_ended {b = b} {bs = bs} m rest) i j body ps p = each_names rest (incl_right (block_rows (pools_seen sc.seen) b) (blocks_all_rows (pools_seen sc.seen) bs) (rows K) i) j body ps p
     each_names {sc = sc} (a_branch {b = b} {bs = bs} fit rest) i j body ps p =

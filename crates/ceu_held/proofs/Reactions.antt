@@ -63,7 +63,8 @@ module _ (K : Kernel) where
   picked_room g h n (Call s r) a body e = absurd (cc)
   picked_room g h n (Par s bs) a body e = absurd (cc)
 
-  pub chosen_room : (g : ℕ) (h : Held) (n : ℕ) (r : Residual) (f : Focus Act) (body : Body) → Found Act (runs_at n) r f → room K.codes g h r body ≡ focus_room K.codes g h f body
+  pub chosen_room : (g : ℕ) (h : Held) (n : ℕ) (r : Residual) (f : Focus Act) (body : Body) → Found Act (runs_at n) r f
+      → room K.codes g h r body ≡ focus_room K.codes g h f body
   chosen_room g h n r f body x =
       let a = plug_room K.codes g h f x.was body in let b = picked_room g h n x.was (leaf f) (body_of f body) x.picked in let d = ap (λ q. room K.codes g h q body) x.plugs in omega (arith, a, b, d)
 
@@ -100,7 +101,8 @@ module _ (K : Kernel) where
     config_lies n (Leaves node x) w h = h
 
     -- beside what lies in c, which more numbers keep
-    pub turn_lies : {t : ℕ} {d : Part} (n : ℕ) (root : Body) (f : Focus Act) (c : ℕ → Held → ℕ) (w : World) → ((g j : ℕ) (h : Held) → g ≤ j → c g h ≤ c j h) → TurnFits K t d f → Sound K proper d
+    pub turn_lies : {t : ℕ} {d : Part} (n : ℕ) (root : Body) (f : Focus Act) (c : ℕ → Held → ℕ) (w : World) → ((g j : ℕ) (h : Held) → g ≤ j → c g h ≤ c j h)
+        → TurnFits K t d f → Sound K proper d
         → Covers K (stepped K n root f w).world.given (c (stepped K n root f w).world.given) d root → SpawnFine f (acted K n (body_of f root) (leaf f) w).does → LieIn (λ h. focus_room K.codes w.given h f root + c w.given h) w
         → LieIn (λ h. left_whole K proper (stepped K n root f w).world.given h root (stepped K n root f w).outcome + c (stepped K n root f w).world.given h) (stepped K n root f w).world
     turn_lies n root f c w up t s o fine x =

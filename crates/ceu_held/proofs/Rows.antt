@@ -1,5 +1,5 @@
 -- The kind of each slot of a kernel, by its number: slots are numbered through the whole kernel, so that a number tells the declaration.
-use Rattle.std.proofs.Common.{◌≡◌, refl, sym, ap, ◌∙◌, subst, ◌≤◌, ℕ, zero, suc, ◌+◌, Bool, true, false, if◌then◌else◌, ◌==◌, ◌⊎◌, inl, inr, List, [], ◌∷◌, ◌++◌, length, Option, Some, None, arith, eqb-true, eq-eqb}
+use Rattle.std.proofs.Common.{◌≡◌, refl, sym, ap, ◌∙◌, subst, ◌≤◌, ℕ, zero, suc, ◌+◌, Bool, true, false, if◌then◌else◌, ◌==◌, ◌⊎◌, inl, inr, List, [], ◌∷◌, ◌++◌, length, Some, None, arith, eqb-true, eq-eqb}
 use Rattle.std.proofs.lemmas.Bool.{and_parts}
 use Rattle.ceu_base.specs.declared.kinds.Ty.TheVariants as ty
 use Rattle.ceu_tree.specs.declared.kernel.Kernel.{Kernel}
@@ -15,69 +15,9 @@ use Rattle.ceu_tree.specs.Numbering.{counts_from, decl_slots, loop_slots, par_sl
 use Rattle.ceu_tree.specs.declared.kernel.KStmt.TheOpen.{KStmt-F}
 use Rattle.ceu_tree.specs.Leaf.{Layer, code_at}
 use Rattle.ceu_tree.specs.Mentions.{outer_names_from}
-use Rattle.ceu_tree.specs.Proper.{SlotKind, IsLoopVariable, pool_slots, pools_seen, slot_kind, declared_seen, body_scope, block_ok, codes_ok, events_ok, ports_ok, is_proper}
+use Rattle.ceu_tree.specs.Proper.{body_scope, block_ok, codes_ok, events_ok, ports_ok, is_proper}
+use Rattle.ceu_held.specs.Declared.{Row, hidden, inner_pools, decl_rows, loop_rows, stmt_rows, block_rows, arm_rows, list_rows, arms_rows, blocks_rows, code_pools, codes_rows, rows, kind_at}
 use denote.Hole.Carrier
-
--- a slot, as it is seen where it has a declaration or is a loop's variable: an alias with the pools of its block and of those around
-pub record Row : Type 0 where
-  pub slot : ℕ
-  pub kind : Option SlotKind
-
-abbrev pub hidden : List ℕ → List Row
-hidden [] = []
-hidden (x ∷ xs) = record { slot = x; kind = None } ∷ hidden xs
-
-abbrev pub decl_rows : (pools : List ℕ) → List KDecl → List Row
-decl_rows pools [] = []
-decl_rows pools (d ∷ ds) = record { slot = d.slot; kind = Some (slot_kind pools d.kind) } ∷ decl_rows pools ds
-
-abbrev pub loop_rows : KLoop → List Row
-loop_rows turns.Free = []
-loop_rows (turns.Times slot n) = hidden (slot ∷ [])
-loop_rows (turns.Range i next end open_a a b open_b) = record { slot = i; kind = Some IsLoopVariable } ∷ hidden (next ∷ end ∷ [])
-
-abbrev pub inner_pools : List ℕ → List KDecl → List ℕ
-inner_pools pools ds = pool_slots ds ++ pools
-
-unfoldable mutual
-  pub stmt_rows : List ℕ → KStmt → List Row
-  stmt_rows ps (AwaitCode c es frame t) = hidden (frame ∷ [])
-  stmt_rows ps (Async b) = block_rows ps b
-  stmt_rows ps (Finalize b) = block_rows ps b
-  stmt_rows ps (Do t b) = block_rows ps b
-  stmt_rows ps (If' _ arms last) = arms_rows ps arms ++ block_rows ps last
-  stmt_rows ps (Loop k b) = loop_rows k ++ block_rows ps b
-  stmt_rows ps (Par' k slot _ bs) = hidden (par_slots k slot (row_length bs)) ++ blocks_rows ps bs
-  stmt_rows ps _ = []
-
-  pub block_rows : List ℕ → KBlock → List Row
-  block_rows ps (KBlock' n ds _ list) = decl_rows (inner_pools ps ds) ds ++ list_rows (inner_pools ps ds) list
-
-  pub arm_rows : List ℕ → KArm → List Row
-  arm_rows ps (KArm' c b) = block_rows ps b
-
-  pub list_rows : {n : _} → List ℕ → Row_of-KNode n → List Row
-  list_rows ps end_of-KNode = []
-  list_rows ps (more_of-KNode n p s rest) = stmt_rows ps s ++ list_rows ps rest
-
-  pub arms_rows : {n : _} → List ℕ → Row_of-KArm n → List Row
-  arms_rows ps end_of-KArm = []
-  arms_rows ps (more_of-KArm a rest) = arm_rows ps a ++ arms_rows ps rest
-
-  pub blocks_rows : {n : _} → List ℕ → Row_of-KBlock n → List Row
-  blocks_rows ps end_of-KBlock = []
-  blocks_rows ps (more_of-KBlock b rest) = block_rows ps b ++ blocks_rows ps rest
-
--- the pools that are seen in the body of code
-abbrev pub code_pools : KCode → List ℕ
-code_pools c = pools_seen (declared_seen (inner_pools [] c.params) c.params [])
-
-abbrev pub codes_rows : List KCode → List Row
-codes_rows [] = []
-codes_rows (c ∷ cs) = decl_rows (inner_pools [] c.params) c.params ++ block_rows (code_pools c) c.body ++ codes_rows cs
-
-abbrev pub rows : Kernel → List Row
-rows K = block_rows [] K.body ++ codes_rows K.codes
 
 -- ---- their slots are those of the kernel
 
@@ -163,11 +103,6 @@ pub among_right : (x : Row) (xs ys : List Row) → Among x ys → Among x (xs ++
 among_right x [] ys h = h
 among_right x (y ∷ xs) ys h = inr (among_right x xs ys h)
 
--- the kind that a slot has
-abbrev pub kind_at : ℕ → List Row → Option SlotKind
-kind_at slot [] = None
-kind_at slot (x ∷ xs) = if x.slot == slot then x.kind else kind_at slot xs
-
 high : (x : Row) (n : ℕ) (xs : List Row) → counts_from n (slots_of xs) ≡ true → Among x xs → n ≤ x.slot
 high x n [] c h = absurd h
 high x n (y ∷ ys) c (inl e) = let a = and_parts (y.slot == n) (counts_from (n + 1) (slots_of ys)) c in let z = eqb-true y.slot n a.0 in let q = ap (λ r. r.slot) e in omega (arith, z, q)
@@ -235,7 +170,8 @@ unfolding stmt_rows
 arms_is ps end_of-KArm = refl
 arms_is ps (more_of-KArm a rest) = ap (λ l. l ++ arms_rows ps rest) (arm_is ps a) ∙ ap (λ l. block_rows ps (out-KArm a).body ++ l) (arms_is ps rest)
 
-pub block_rows_is : (ps : List ℕ) (b : KBlock) → block_rows ps b ≡ decl_rows (inner_pools ps (out-KBlock b).decls) (out-KBlock b).decls ++ list_all_rows (inner_pools ps (out-KBlock b).decls) (out-KBlock b).list
+pub block_rows_is : (ps : List ℕ) (b : KBlock)
+    → block_rows ps b ≡ decl_rows (inner_pools ps (out-KBlock b).decls) (out-KBlock b).decls ++ list_all_rows (inner_pools ps (out-KBlock b).decls) (out-KBlock b).list
 unfolding stmt_rows out-KBlock Carrier.out
 block_rows_is ps (KBlock' n ds x list) = ap (λ l. decl_rows (inner_pools ps ds) ds ++ l) (list_is (inner_pools ps ds) list ∙ ap (list_all_rows (inner_pools ps ds)) (sym (items_shown-the_row-KNode-2 x list)))
 
@@ -249,7 +185,8 @@ parts_in ps (Par' k slot x bs) r m =
     among_right r (hidden (par_slots k slot (row_length bs))) (blocks_rows ps bs) (subst (Among r) (ap (blocks_all_rows ps) (items_shown-the_row-KBlock-1 x bs) ∙ sym (blocks_is ps bs)) m)
 parts_in ps st r m = absurd m
 
-pub code_rows_in : (c : ℕ) (cs : List KCode) (k : KCode) → code_at c cs ≡ Some k → Incl (decl_rows (inner_pools [] k.params) k.params ++ block_rows (code_pools k) k.body) (codes_rows cs)
+pub code_rows_in : (c : ℕ) (cs : List KCode) (k : KCode) → code_at c cs ≡ Some k
+    → Incl (decl_rows (inner_pools [] k.params) k.params ++ block_rows (code_pools k) k.body) (codes_rows cs)
 code_rows_in c [] k e = absurd (cc)
 code_rows_in zero (x ∷ cs) k e =
     let same : x ≡ k = ap (λ o. elim o [ None ↦ x | Some y ↦ y ]) e in

@@ -26,16 +26,23 @@ use Rattle.ceu_living.specs.Instances.{InstancesStand}
 use Rattle.ceu_living.proofs.Reactions.{instances_counted}
 use Rattle.ceu_held.specs.Held.{is_of_kind, lies_at, lies_declared, lies_counted, lies_turning, lies_given, lies_in, lies_in_branches, lies_in_instances, all_lie, ValuesLie}
 use Rattle.ceu_legal.proofs.RunFits.{run_fits}
-use Rattle.ceu_held.specs.Laws.{RunNamesLegal, SlotKinds, RunSlotKinds, RunSlotsLegal}
-use Rattle.ceu_held.proofs.Slots.{room, focus_room, plug_room, lies_room}
+use Rattle.ceu_tree.specs.Abort.{aborted}
+use Rattle.ceu_legal.proofs.RunFits.{root_sound}
+use Rattle.ceu_held.specs.Typed.{is_typed, all_typed}
+use Rattle.ceu_held.proofs.Aborts.{LieIn}
+use Rattle.ceu_held.proofs.Typing.{aborted_typed}
+use Rattle.ceu_held.proofs.Starts.{turn_starts}
+use Rattle.ceu_held.specs.Laws.{AbortTyped, StartTyped, RunNamesLegal, SlotKinds, RunSlotKinds, RunSlotsLegal}
+use Rattle.ceu_held.proofs.Slots.{once, once_is, room, focus_room, plug_room, lies_room}
 use Rattle.ceu_held.proofs.Values as values
 use Rattle.ceu_held.proofs.Values.{Lie, lie_more, lie_all}
 use Rattle.ceu_held.proofs.Reactions.{TreeLies, ConfigLies, next_lies, steps_lie}
 use Rattle.ceu_held.proofs.Commands.{done_lies, run_lies}
 use Rattle.ceu_held.proofs.Known.{program_known}
 use Rattle.ceu_held.proofs.Fitting.{EachKind, each_lies, tree_fits}
-use Rattle.ceu_held.proofs.NameRuns.{ConfigNames}
-use Rattle.ceu_held.proofs.NameCommands.{run_names}
+use Rattle.ceu_held.specs.Names.{agrees, all_agree, NamesHold}
+use Rattle.ceu_held.proofs.NameRuns.{TreeNames, ConfigNames, next_names, steps_names}
+use Rattle.ceu_held.proofs.NameCommands.{done_names, run_names}
 use Rattle.ceu_held.proofs.NamesFit.{tree_names}
 
 -- ---- what is counted, and what is said
@@ -79,9 +86,47 @@ module _ (K : Kernel) where
     pub run_held : (n : ℕ) (xs : List Command) → ValuesLie K (run K n xs)
     run_held n xs = config_lies (run K n xs) (run_lies K proper n xs)
 
+-- ---- which instances aliases name
+
+module _ (K : Kernel) where
+  tree_tested : (r : Residual) (w : World) → all_agree K r w → TreeNames K r w
+  tree_tested r w e = lie_all (λ h. once (agrees K w.given (seats r Program) h)) (agrees K w.given (seats r Program)) (λ h. once_is (agrees K w.given (seats r Program) h)) w.values e
+
+  tree_agrees : (r : Residual) (w : World) → TreeNames K r w → all_agree K r w
+  tree_agrees r w l =
+      values.all_lie (λ h. once (agrees K w.given (seats r Program) h)) (agrees K w.given (seats r Program)) (λ h n. once_is (agrees K w.given (seats r Program) h) ∙ lt-ltb 0 (once (agrees K w.given (seats r Program) h)) (omega (arith, n))) w.values l
+
+  config_tested : (c : Config) → NamesHold K c → ConfigNames K c
+  config_tested (Turning n f w) e = tree_tested (plug f Over) w e
+  config_tested (Between n r w) e = tree_tested r w e
+  config_tested (Waiting r w) e = tree_tested r w e
+  config_tested (Ended v w) e = tt
+  config_tested (Faulted z w) e = tt
+
+  config_agrees : (c : Config) → ConfigNames K c → NamesHold K c
+  config_agrees (Turning n f w) l = tree_agrees (plug f Over) w l
+  config_agrees (Between n r w) l = tree_agrees r w l
+  config_agrees (Waiting r w) l = tree_agrees r w l
+  config_agrees (Ended v w) l = tt
+  config_agrees (Faulted z w) l = tt
+
+  module _ (proper : is_proper K ≡ true) where
+    pub next_hold : (c : Config) → ConfigFits K c → InstancesStand c → NamesHold K c → NamesHold K (next K c)
+    next_hold c t s h = config_agrees (next K c) (next_names K proper c t (instances_counted K proper c t s) (config_tested c h))
+
+    pub steps_hold : (n : ℕ) (c : Config) → ConfigFits K c → InstancesStand c → NamesHold K c → NamesHold K (steps K n c)
+    steps_hold n c t s h = config_agrees (steps K n c) (steps_names K proper n c t (instances_counted K proper c t s) (config_tested c h))
+
+    pub done_hold : (n : ℕ) (x : Command) (c : Config) → ConfigFits K c → InstancesStand c → NamesHold K c → NamesHold K (done K n x c)
+    done_hold n x c t s h = config_agrees (done K n x c) (done_names K proper n x c t (instances_counted K proper c t s) (config_tested c h))
+
+    pub run_hold : (n : ℕ) (xs : List Command) → NamesHold K (run K n xs)
+    run_hold n xs = config_agrees (run K n xs) (run_names K proper n xs)
+
 -- ---- the kinds of open slots
 
-each_kind : (K : Kernel) (proper : is_proper K ≡ true) (r : Residual) (w : World) → ConfigFits K (Waiting r w) → ValuesLie K (Waiting r w) → EachKind K proper w.given w.values
+each_kind : (K : Kernel) (proper : is_proper K ≡ true) (r : Residual) (w : World) → ConfigFits K (Waiting r w) → ValuesLie K (Waiting r w)
+    → EachKind K proper w.given w.values
 each_kind K p r w t v = each_lies K p w.given t (program_known K p) Program w.values (tree_counted K r w v)
 
 pub kinds_are : SlotKinds
@@ -89,6 +134,19 @@ kinds_are K r w p t v = tree_fits K p w (each_kind K p r w t v) t (program_known
 
 pub run_kinds : RunSlotKinds
 run_kinds K n xs r w p e = kinds_are K r w p (subst (ConfigFits K) e (run_fits K p n xs)) (subst (ValuesLie K) e (run_held K p n xs))
+
+-- ---- types
+
+all_tested : (K : Kernel) (w : World) → all_typed K w → LieIn (λ h. once (is_typed K h)) w
+all_tested K w e = lie_all (λ h. once (is_typed K h)) (is_typed K) (λ h. once_is (is_typed K h)) w.values e
+
+pub abort_types : AbortTyped
+abort_types K top r w p t e =
+    values.all_lie (λ h. once (is_typed K h)) (is_typed K) (λ h n. once_is (is_typed K h) ∙ lt-ltb 0 (once (is_typed K h)) (omega (arith, n))) (aborted r Program w).values
+    (aborted_typed K p t (root_sound K p) (program_known K p) Program w (all_tested K w e))
+
+pub start_types : StartTyped
+start_types K n f w s p t q a = turn_starts K p n f w s t q (all_tested K w a)
 
 -- ---- in the words of legality
 
@@ -112,18 +170,22 @@ module _ (codes : List KCode) (g : ℕ) (h : Held) where
   abbrev is_here : OpenSlot → Bool
   is_here x = (x.slot == h.slot) && same_body x.body h.body
 
-  both : (xs ys : List OpenSlot) (a b : Bool) → (a ≡ true → is_open_slot xs h ≡ true) → (b ≡ true → is_open_slot ys h ≡ true) → (a || b) ≡ true → is_open_slot (xs ++ ys) h ≡ true
+  both : (xs ys : List OpenSlot) (a b : Bool) → (a ≡ true → is_open_slot xs h ≡ true) → (b ≡ true → is_open_slot ys h ≡ true) → (a || b) ≡ true
+      → is_open_slot (xs ++ ys) h ≡ true
   both xs ys true b f g e = any_left is_here xs ys (f refl)
   both xs ys false b f g e = any_right is_here xs ys (g e)
 
-  open_at : (body : Body) (slot : ℕ) (k : KKind) (xs : List OpenSlot) → lies_at codes g h body slot k ≡ true → is_open_slot (record { body = body; slot = slot } ∷ xs) h ≡ true
+  open_at : (body : Body) (slot : ℕ) (k : KKind) (xs : List OpenSlot) → lies_at codes g h body slot k ≡ true
+      → is_open_slot (record { body = body; slot = slot } ∷ xs) h ≡ true
   open_at body slot k xs e = ap (λ b. b || is_open_slot xs h) (and_parts ((slot == h.slot) && same_body body h.body) (is_of_kind g k h.cell) e).0
 
   open_decls : (body : Body) (ds : List KDecl) → lies_declared codes g h body ds ≡ true → is_open_slot (decls_open body ds) h ≡ true
   open_decls body [] e = e
   open_decls body (d ∷ ds) e = go (or_cases (lies_at codes g h body d.slot d.kind) (lies_declared codes g h body ds) e) (open_decls body ds)
     where
-      go : (lies_at codes g h body d.slot d.kind ≡ true) ⊎ (lies_declared codes g h body ds ≡ true) → (lies_declared codes g h body ds ≡ true → is_open_slot (decls_open body ds) h ≡ true) → is_open_slot (record { body = body; slot = d.slot } ∷ decls_open body ds) h ≡ true
+      go : (lies_at codes g h body d.slot d.kind ≡ true) ⊎ (lies_declared codes g h body ds ≡ true)
+          → (lies_declared codes g h body ds ≡ true → is_open_slot (decls_open body ds) h ≡ true)
+          → is_open_slot (record { body = body; slot = d.slot } ∷ decls_open body ds) h ≡ true
       go (inl e) ih = open_at body d.slot d.kind (decls_open body ds) e
       go (inr e) ih = any_right is_here (record { body = body; slot = d.slot } ∷ []) (decls_open body ds) (ih e)
 
@@ -173,7 +235,8 @@ module _ (codes : List KCode) (g : ℕ) (h : Held) where
         (both (code_open body (code_at seat.code codes)) (open_slots codes r body ++ instances_open codes more) _ _ (open_code body (code_at seat.code codes))
         (both (open_slots codes r body) (instances_open codes more) _ _ (open_in r body) (open_all more)) e)
 
-all_open : (K : Kernel) (r : Residual) (g : ℕ) (hs : List Held) → list_all (λ h. lies_in K.codes g h r Program) hs ≡ true → list_all (is_open_slot (open_slots K.codes r Program)) hs ≡ true
+all_open : (K : Kernel) (r : Residual) (g : ℕ) (hs : List Held) → list_all (λ h. lies_in K.codes g h r Program) hs ≡ true
+    → list_all (is_open_slot (open_slots K.codes r Program)) hs ≡ true
 all_open K r g [] e = refl
 all_open K r g (h ∷ hs) e = let a = and_parts _ _ e in and_from _ _ (open_in K.codes g h r Program a.0) (all_open K r g hs a.1)
 

@@ -45,7 +45,8 @@ module _ (P : Seated → Type 0) where
   join_seats no_branch back body h k = k
   join_seats (branch r more) back body h k = (h.0, join_seats more back body h.1 k)
 
-  split_seats : (front : Branches) (r : Residual) (back : Branches) (body : Body) → branches_seats (join front (branch r back)) body → branches_seats front body × each_seat r body × branches_seats back body
+  split_seats : (front : Branches) (r : Residual) (back : Branches) (body : Body) → branches_seats (join front (branch r back)) body
+      → branches_seats front body × each_seat r body × branches_seats back body
   unfolding each_seat
   split_seats no_branch r back body h = (tt, h.0, h.1)
   split_seats (branch q more) r back body h = let a = split_seats more r back body h.1 in ((h.0, a.0), a.1, a.2)
@@ -55,7 +56,9 @@ module _ (P : Seated → Type 0) where
   join_all_seats no_instance back body h k = k
   join_all_seats (instance seat r more) back body h k = (h.0, h.1, join_all_seats more back body h.2 k)
 
-  split_all_seats : (front : Instances) (seat : Seat) (r : Residual) (back : Instances) (body : Body) → all_seats (join_instances front (instance seat r back)) body → all_seats front body × P (at_seat seat body) × each_seat r (Spawned seat.number) × all_seats back body
+  split_all_seats : (front : Instances) (seat : Seat) (r : Residual) (back : Instances) (body : Body)
+      → all_seats (join_instances front (instance seat r back)) body
+      → all_seats front body × P (at_seat seat body) × each_seat r (Spawned seat.number) × all_seats back body
   unfolding each_seat
   split_all_seats no_instance seat r back body h = (tt, h.0, h.1, h.2)
   split_all_seats (instance other q more) seat r back body h = let a = split_all_seats more seat r back body h.2 in ((h.0, h.1, a.0), a.1, a.2, a.3)
@@ -129,11 +132,13 @@ module _ (P : Seated → Type 0) where
     in_body_seats (Here a) r body h k = leaves_seats r body k
     in_body_seats (In fr f) r body h k = go (has_body (In fr f)) (in_body_seats f r (body_in fr body) h.1 k)
       where
-        go : (b : Bool) → each_seat (each_in_body c f r) (body_in fr body) → each_seat (if b then fill fr (each_in_body c f r) else each_leaf c (plug (In fr f) r)) body
+        go : (b : Bool) → each_seat (each_in_body c f r) (body_in fr body)
+            → each_seat (if b then fill fr (each_in_body c f r) else each_leaf c (plug (In fr f) r)) body
         go true a = fill_seats fr (each_in_body c f r) body h.0 a
         go false a = leaves_seats (plug (In fr f) r) body (fill_seats fr (plug f r) body h.0 (plug_seats f r (body_in fr body) h.1 k))
 
-    pub woken_seats : {A : Type 0} (code : Option ℕ) (f : Focus A) (r : Residual) (body : Body) → focus_seats f body → each_seat r (body_of f body) → each_seat (woken code c f r) body
+    pub woken_seats : {A : Type 0} (code : Option ℕ) (f : Focus A) (r : Residual) (body : Body) → focus_seats f body → each_seat r (body_of f body)
+        → each_seat (woken code c f r) body
     woken_seats None f r body h k = leaves_seats (plug f r) body (plug_seats f r body h k)
     woken_seats (Some j) f r body h k = in_body_seats f r body h k
 
@@ -184,7 +189,8 @@ module _ (P : Seated → Type 0) where
     with_seats no_instance body p h = (p, inside, tt)
     with_seats (instance other q more) body p h = go (nat_lt seat.pool other.pool) (with_seats more body p h.2)
       where
-        go : (b : Bool) → all_seats (with_instance seat r more) body → all_seats (if b then instance seat r (instance other q more) else instance other q (with_instance seat r more)) body
+        go : (b : Bool) → all_seats (with_instance seat r more) body
+            → all_seats (if b then instance seat r (instance other q more) else instance other q (with_instance seat r more)) body
         go true ih = (p, inside, h)
         go false ih = (h.0, h.1, ih)
 

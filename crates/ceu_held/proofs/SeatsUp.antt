@@ -33,7 +33,8 @@ module _ (P : Seated → Type 0) where
   abbrev Fine : Moved → Body → Type 0
   Fine m body = OutcomeSeats m.outcome body
 
-  body_left_seats : (t : Bool) (b : KBlock) (fin : List KNode) (all : Instances) (f : Focus Act) (body : Body) (node : ℕ) (x : Exit) (w : World) → Fine (body_left t b fin all f body node x w) body
+  body_left_seats : (t : Bool) (b : KBlock) (fin : List KNode) (all : Instances) (f : Focus Act) (body : Body) (node : ℕ) (x : Exit) (w : World)
+      → Fine (body_left t b fin all f body node x w) body
   body_left_seats true b fin all f body node x w = tt
   body_left_seats false b fin all f body node x w = tt
 
@@ -61,7 +62,8 @@ module _ (P : Seated → Type 0) where
   loop_exit_seats s c Break body w = tt
   loop_exit_seats s c (Escape v) body w = tt
 
-  loop_left_seats : (t : Bool) (s : KNode) (c : Counter) (f : Focus Act) (body : Body) (node : ℕ) (x : Exit) (w : World) → Fine (loop_left t s c f body node x w) body
+  loop_left_seats : (t : Bool) (s : KNode) (c : Counter) (f : Focus Act) (body : Body) (node : ℕ) (x : Exit) (w : World)
+      → Fine (loop_left t s c f body node x w) body
   loop_left_seats true s c f body node x w = loop_exit_seats s c x body _
   loop_left_seats false s c f body node x w = tt
 
@@ -71,7 +73,8 @@ module _ (P : Seated → Type 0) where
   rejoined_seats par.Or s bs body w h = tt
   rejoined_seats par.And s bs body w h = either (all_over bs) body _ _ tt h
 
-  through_seats : (body : Body) (fr : Frame) (f : Focus Act) (x : Outcome) (w : World) → frame_seats P fr body → OutcomeSeats x (body_in fr body) → Fine (through body fr f x w) body
+  through_seats : (body : Body) (fr : Frame) (f : Focus Act) (x : Outcome) (w : World) → frame_seats P fr body → OutcomeSeats x (body_in fr body)
+      → Fine (through body fr f x w) body
   unfolding each_seat focus_seats
   through_seats body fr f (Goes g) w h k = (h, k)
   through_seats body fr f (Rests r) w h k = fill_seats P fr r body h k
@@ -107,7 +110,8 @@ module _ (P : Seated → Type 0) where
   taken_seats f (Leaves node x) body h k = plug_seats P f Over body h tt
   taken_seats f x body h k = tt
 
-  pub answered_seats : (root : Body) (f : Focus Act) (x : Outcome) (w : World) → focus_seats P f root → ((b : Body) → OutcomeSeats x b) → Fine (answered root f x w) root
+  pub answered_seats : (root : Body) (f : Focus Act) (x : Outcome) (w : World) → focus_seats P f root → ((b : Body) → OutcomeSeats x b)
+      → Fine (answered root f x w) root
   answered_seats root f x w h k = taken_seats f (up root f x w).outcome root h (up_seats root f x w h k)
 
   -- ---- a leaf

@@ -22,6 +22,10 @@ use Rattle.ceu_held.specs.Held.{lies_at, lies_declared, lies_counted, lies_turni
 abbrev pub once : Bool → ℕ
 once b = if b then 1 else 0
 
+pub once_is : (b : Bool) → b ≡ nat_lt 0 (once b)
+once_is true = refl
+once_is false = refl
+
 module _ (codes : List KCode) (g : ℕ) (h : Held) where
   abbrev pub at_room : Body → ℕ → KKind → ℕ
   at_room body slot k = once (lies_at codes g h body slot k)
@@ -146,15 +150,12 @@ module _ (codes : List KCode) (g : ℕ) (h : Held) where
         go true e = omega (arith, fill_room fr (each_in_body c f r) body, e)
         go false e = let a = plug_room (In fr f) r body in omega (arith, leaves_room (plug (In fr f) r) body, a)
 
-    pub woken_room : {A : Type 0} (code : Option ℕ) (f : Focus A) (r : Residual) (body : Body) → room (woken code c f r) body ≡ focus_room f body + room r (body_of f body)
+    pub woken_room : {A : Type 0} (code : Option ℕ) (f : Focus A) (r : Residual) (body : Body)
+        → room (woken code c f r) body ≡ focus_room f body + room r (body_of f body)
     woken_room None f r body = leaves_room (plug f r) body ∙ plug_room f r body
     woken_room (Some k) f r body = body_room f r body
 
   -- ---- whether it lies anywhere
-
-  once_is : (b : Bool) → b ≡ nat_lt 0 (once b)
-  once_is true = refl
-  once_is false = refl
 
   either : (a b : Bool) (m n : ℕ) → a ≡ nat_lt 0 m → b ≡ nat_lt 0 n → (a || b) ≡ nat_lt 0 (m + n)
   either a b m n p q = go (nat_lt 0 m) refl

@@ -79,11 +79,13 @@ module _ (codes : List KCode) (g : ℕ) (h : Held) (seat : Seat) (r : Residual) 
       go true e = omega arith
       go false e = omega (arith, e)
 
-  frame_new : (fr : Frame) (body : Body) → frame_has seat.pool seat.code fr → frame_room codes g h (seat_frame seat r fr) body ≡ frame_room codes g h fr body + seat_room
+  frame_new : (fr : Frame) (body : Body) → frame_has seat.pool seat.code fr
+      → frame_room codes g h (seat_frame seat r fr) body ≡ frame_room codes g h fr body + seat_room
   frame_new (OfBlock b fin all rest) body e = let a = ap (λ o. all_room codes g h (seated_if o seat r all)) e.sized in let z = with_room all in omega (arith, a, z)
   frame_new fr body e = elim e [ ]
 
-  pub one_room : (f : Focus Act) (body : Body) → one_has seat.pool seat.code f → focus_room codes g h (seated seat r f) body ≡ focus_room codes g h f body + seat_room
+  pub one_room : (f : Focus Act) (body : Body) → one_has seat.pool seat.code f
+      → focus_room codes g h (seated seat r f) body ≡ focus_room codes g h f body + seat_room
   unfolding one_has focus_room
   one_room (Here a) body e = elim e [ ]
   one_room (In fr f) body (inl e) =
@@ -103,7 +105,8 @@ by_event_calm codes g h level event v r body = refl
 module _ (K : Kernel) (proper : is_proper K ≡ true) (g : ℕ) where
   -- ---- a kill
 
-  killed_in_lie : {t : ℕ} {sc : Scope} {all : Instances} (k : ℕ) (c : Held → ℕ) (w : World) → AllFit K t sc all → Outer K g c → LieIn (λ h. all_room K.codes g h all + c h) w → LieIn (λ h. all_room K.codes g h (unseated k all) + c h) (killed_in k all w)
+  killed_in_lie : {t : ℕ} {sc : Scope} {all : Instances} (k : ℕ) (c : Held → ℕ) (w : World) → AllFit K t sc all → Outer K g c
+      → LieIn (λ h. all_room K.codes g h all + c h) w → LieIn (λ h. all_room K.codes g h (unseated k all) + c h) (killed_in k all w)
   unfolding room
   killed_in_lie k c w none_lives u x = x
   killed_in_lie k c w (one_lives {seat = seat} {r = r} {more = more} i p e fit rest) u x =
@@ -134,7 +137,8 @@ module _ (K : Kernel) (proper : is_proper K ≡ true) (g : ℕ) where
       go false q beyond =
           lie_more (λ h. all_room K.codes g h (unseated k more) + (own h + c h)) (λ h. code h + (room K.codes g h r body + all_room K.codes g h (unseated k more)) + c h) (λ h n. omega (arith, n)) (killed_in k more w).values beyond
 
-  block_kills : {t : ℕ} {sc : Scope} (b : KBlock) (fin : List KNode) (all : Instances) (rest : List KNode) (k : ℕ) (m c : Held → ℕ) (body : Body) (w : World) → AllFit K t sc all → Outer K g (λ h. decls_room K.codes g h body (out-KBlock b).decls + c h)
+  block_kills : {t : ℕ} {sc : Scope} (b : KBlock) (fin : List KNode) (all : Instances) (rest : List KNode) (k : ℕ) (m c : Held → ℕ) (body : Body) (w : World)
+      → AllFit K t sc all → Outer K g (λ h. decls_room K.codes g h body (out-KBlock b).decls + c h)
       → LieIn (λ h. frame_room K.codes g h (OfBlock b fin all rest) body + m h + c h) w → LieIn (λ h. frame_room K.codes g h (OfBlock b fin (unseated k all) rest) body + m h + c h) (killed_in k all w)
   block_kills b fin all rest k m c body w fit u x =
       let d : Held → ℕ = λ h. decls_room K.codes g h body (out-KBlock b).decls + c h in
@@ -143,7 +147,8 @@ module _ (K : Kernel) (proper : is_proper K ≡ true) (g : ℕ) where
       (killed_in_lie k v w fit (own_more K g d v (program_seen K g) Program (λ h n. omega (arith, n)) u)
       (lie_more (λ h. frame_room K.codes g h (OfBlock b fin all rest) body + m h + c h) (λ h. all_room K.codes g h all + v h) (λ h n. omega (arith, n)) w.values x))
 
-  kill_frame_lie : {t : ℕ} {fr : Frame} {d e : Part} (k : ℕ) (m c : Held → ℕ) (body : Body) (w : World) → FrameFits K t fr d e → Covers K g c d body → LieIn (λ h. frame_room K.codes g h fr body + m h + c h) w
+  kill_frame_lie : {t : ℕ} {fr : Frame} {d e : Part} (k : ℕ) (m c : Held → ℕ) (body : Body) (w : World) → FrameFits K t fr d e → Covers K g c d body
+      → LieIn (λ h. frame_room K.codes g h fr body + m h + c h) w
       → LieIn (λ h. frame_room K.codes g h (unseat_frame k fr) body + m h + c h) (kill_frame k fr w)
   kill_frame_lie {fr = OfBlock b fin all rest} k m c body w (around_statement done e f fit) o x = block_kills b fin all rest k m c body w fit (outer_inside K g b body c o.1) x
   kill_frame_lie {fr = OfBlock b fin all rest} k m c body w (around_end f fit) o x = block_kills b fin all rest k m c body w fit (outer_inside K g b body c o.1) x
@@ -159,7 +164,8 @@ module _ (K : Kernel) (proper : is_proper K ≡ true) (g : ℕ) where
       out : Around K t Act (In (unseat_frame k fr) (Here AtEnd)) d e → FrameFits K t (unseat_frame k fr) d e
       out (one_around b nothing_around) = b
 
-  killed_lie : {t : ℕ} {f : Focus Act} {d e : Part} (k : ℕ) (c : Held → ℕ) (body : Body) (w : World) → Around K t Act f d e → Covers K g c d body → LieIn (λ h. focus_room K.codes g h f body + c h) w → LieIn (λ h. focus_room K.codes g h (unseat k f) body + c h) (killed k f w)
+  killed_lie : {t : ℕ} {f : Focus Act} {d e : Part} (k : ℕ) (c : Held → ℕ) (body : Body) (w : World) → Around K t Act f d e → Covers K g c d body
+      → LieIn (λ h. focus_room K.codes g h f body + c h) w → LieIn (λ h. focus_room K.codes g h (unseat k f) body + c h) (killed k f w)
   unfolding focus_room
   killed_lie k c body w nothing_around o x = x
   killed_lie {f = In fr f} k c body w (one_around {e = e} a more) o x =
@@ -197,7 +203,8 @@ module _ (K : Kernel) (proper : is_proper K ≡ true) (g : ℕ) where
   abbrev pub Result : (Held → ℕ) → Body → Moved → Type 0
   Result c root m = LieIn (λ h. left_whole h root m.outcome + c h) m.world
 
-  answered_lie : {t : ℕ} {f : Focus Act} {d e : Part} → Around K t Act f d e → Sound K proper d → (x : Outcome) (root : Body) (c : Held → ℕ) (w : World) → Covers K g c d root → ((h : Held) (b : Body) (a : Act) → left K proper g h b (Here a) x ≡ 0)
+  answered_lie : {t : ℕ} {f : Focus Act} {d e : Part} → Around K t Act f d e → Sound K proper d → (x : Outcome) (root : Body) (c : Held → ℕ) (w : World)
+      → Covers K g c d root → ((h : Held) (b : Body) (a : Act) → left K proper g h b (Here a) x ≡ 0)
       → LieIn (λ h. focus_room K.codes g h f root + c h) w → Result c root (answered root f x w)
   answered_lie {f = f} a h x root c w o z l =
       let m = up root f x w in
@@ -208,11 +215,13 @@ module _ (K : Kernel) (proper : is_proper K ≡ true) (g : ℕ) where
 
   -- ---- a spawn
 
-  alias_lies : (m c : Held → ℕ) (body : Body) (alias : Option ℕ) (cell : Cell) (w : World) → ((h : Held) → 1 ≤ c h → 1 ≤ m h) → alias_counts K g c body alias → ((k : ℕ) (ps : List ℕ) → slot_is K g (IsAlias k ps) cell ≡ true) → LieIn m w → LieIn m (set_alias body alias cell w)
+  alias_lies : (m c : Held → ℕ) (body : Body) (alias : Option ℕ) (cell : Cell) (w : World) → ((h : Held) → 1 ≤ c h → 1 ≤ m h) → alias_counts K g c body alias
+      → ((k : ℕ) (ps : List ℕ) → slot_is K g (IsAlias k ps) cell ≡ true) → LieIn m w → LieIn m (set_alias body alias cell w)
   alias_lies m c body None cell w f a e x = x
   alias_lies m c body (Some slot) cell w f a e x = lie_put m body slot cell w.values (f (held body slot cell) (a cell e)) x
 
-  spawned_at_lie : (n : ℕ) (root body : Body) (f : Focus Act) (s : KNode) (i : KCode) (code pool place : ℕ) (alias : Option ℕ) (vs : List ℤ) (c : Held → ℕ) (w : World) → one_has pool code f → code_at code K.codes ≡ Some i
+  spawned_at_lie : (n : ℕ) (root body : Body) (f : Focus Act) (s : KNode) (i : KCode) (code pool place : ℕ) (alias : Option ℕ) (vs : List ℤ) (c : Held → ℕ) (w : World)
+      → one_has pool code f → code_at code K.codes ≡ Some i
       → alias_counts K g (λ h. focus_room K.codes g h f root + c h) body alias → Low (spawned_at n body f s i code pool place alias vs w) → LieIn (λ h. focus_room K.codes g h f root + c h) w
       → Result c root (spawned_at n body f s i code pool place alias vs w)
   unfolding room
@@ -254,14 +263,16 @@ module _ (K : Kernel) (proper : is_proper K ≡ true) (g : ℕ) where
       new : (h : Held) → decls_room K.codes g h (InstanceBody number) i.params ≤ all h
       new h = let a = size h in let b = ap (code_room K.codes g h (InstanceBody number)) there in omega (arith, a, b)
 
-      go : (b : Bool) → Low (if b then moved (Fails (SpawnCount, s.pos) (plug f Over)) w else moved (Raises (plug (seated seat run f) (Run n (Finish s (pos 0))))) (marked (mark.Push (n + 1)) (marked (mark.Spawned number) u)))
+      go : (b : Bool)
+          → Low (if b then moved (Fails (SpawnCount, s.pos) (plug f Over)) w else moved (Raises (plug (seated seat run f) (Run n (Finish s (pos 0))))) (marked (mark.Push (n + 1)) (marked (mark.Spawned number) u)))
           → Result c root (if b then moved (Fails (SpawnCount, s.pos) (plug f Over)) w else moved (Raises (plug (seated seat run f) (Run n (Finish s (pos 0))))) (marked (mark.Push (n + 1)) (marked (mark.Spawned number) u)))
       go true l = lie_more before (λ h. 1 + c h) (λ h n. omega arith) w.values x
       go false l =
           parameters_lie K g (InstanceBody number) i.params vs all v1 (parameters_are K code i proper there) new
           (alias_lies all before body alias (Names number) v more counts (λ k ps. and_from _ _ (le-leb 1 number (omega arith)) (le-leb number g (omega (arith, l, given)))) (lie_more before all more w.values x))
 
-  spawned_lie : {t : ℕ} {d e : Part} (n : ℕ) (root body : Body) (f : Focus Act) (s : KNode) (i : KCode) (code pool : ℕ) (alias : Option ℕ) (vs : List ℤ) (c : Held → ℕ) (w : World) → Around K t Act f d e → Sound K proper d → Covers K g c d root
+  spawned_lie : {t : ℕ} {d e : Part} (n : ℕ) (root body : Body) (f : Focus Act) (s : KNode) (i : KCode) (code pool : ℕ) (alias : Option ℕ) (vs : List ℤ) (c : Held → ℕ) (w : World)
+      → Around K t Act f d e → Sound K proper d → Covers K g c d root
       → one_has pool code f → code_at code K.codes ≡ Some i → alias_counts K g (λ h. focus_room K.codes g h f root + c h) body alias → Low (spawned n root body f s i code pool alias vs w) → LieIn (λ h. focus_room K.codes g h f root + c h) w
       → Result c root (spawned n root body f s i code pool alias vs w)
   spawned_lie n root body f s i code pool alias vs c w a h o one there counts low x = go (free_place pool f) low
@@ -276,7 +287,8 @@ module _ (K : Kernel) (proper : is_proper K ≡ true) (g : ℕ) where
       go None l = answered_lie a h Past root c (marked mark.Full (set_alias body alias NotSet w)) o (λ k b z. refl) (alias_lies (λ k. focus_room K.codes g k f root + c k) (λ k. focus_room K.codes g k f root + c k) body alias NotSet w (λ k m. m) counts (λ k ps. refl) x)
       go (Some place) l = spawned_at_lie n root body f s i code pool place alias vs c w one there counts l x
 
-  does_lie : {t : ℕ} {d e : Part} (n : ℕ) (root : Body) (f : Focus Act) (x : Does) (c : Held → ℕ) (w : World) → Around K t Act f d e → Sound K proper d → Covers K g c d root → SpawnFine f x
+  does_lie : {t : ℕ} {d e : Part} (n : ℕ) (root : Body) (f : Focus Act) (x : Does) (c : Held → ℕ) (w : World) → Around K t Act f d e → Sound K proper d
+      → Covers K g c d root → SpawnFine f x
       → Spawning K g (λ h. focus_room K.codes g h f root + c h) (body_of f root) x → Low (does_in K n root (body_of f root) f x w)
       → LieIn (λ h. fresh K g h (body_of f root) x + (focus_room K.codes g h f root + c h)) w → Result c root (does_in K n root (body_of f root) f x w)
   unfolding room focus_room
@@ -296,7 +308,8 @@ module _ (K : Kernel) (proper : is_proper K ≡ true) (g : ℕ) where
   does_lie n root f (does.Kills j) c w a h o k p low x = answered_lie (unseated_around K proper _ j a) h Past root c (killed j f w) o (λ i b z. refl) (killed_lie j c root w a o (lie_rest (λ i. focus_room K.codes g i f root + c i) w x))
   does_lie n root f (does.Fails e) c w a h o k p low x = lie_more (λ j. 0 + (focus_room K.codes g j f root + c j)) (λ j. 1 + c j) (λ j m. omega arith) w.values x
 
-  pub stepped_lie : {t : ℕ} {d : Part} (n : ℕ) (root : Body) (f : Focus Act) (c : Held → ℕ) (w : World) → TurnFits K t d f → Sound K proper d → Covers K g c d root → SpawnFine f (acted K n (body_of f root) (leaf f) w).does
+  pub stepped_lie : {t : ℕ} {d : Part} (n : ℕ) (root : Body) (f : Focus Act) (c : Held → ℕ) (w : World) → TurnFits K t d f → Sound K proper d → Covers K g c d root
+      → SpawnFine f (acted K n (body_of f root) (leaf f) w).does
       → Low (stepped K n root f w) → LieIn (λ h. focus_room K.codes g h f root + c h) w → Result c root (stepped K n root f w)
   unfolding stepped
   stepped_lie n root f c w z h o k low x =

@@ -36,7 +36,8 @@ module _ (K : Kernel) (proper : is_proper K ≡ true) (g : ℕ) where
     abbrev After : Frame → Outcome → Type 0
     After fr x = Left K proper g c body (In fr f) (through body fr f x w)
 
-    block_ends : {t : ℕ} {d e : Part} (b : KBlock) (fin : List KNode) (all : Instances) (rest : List KNode) → FrameFits K t (OfBlock b fin all rest) d e → Sound K proper d → Covers K g c d body → Before (OfBlock b fin all rest) AtBlockEnd → After (OfBlock b fin all rest) AtBlockEnd
+    block_ends : {t : ℕ} {d e : Part} (b : KBlock) (fin : List KNode) (all : Instances) (rest : List KNode) → FrameFits K t (OfBlock b fin all rest) d e
+        → Sound K proper d → Covers K g c d body → Before (OfBlock b fin all rest) AtBlockEnd → After (OfBlock b fin all rest) AtBlockEnd
     block_ends b fin all rest (around_statement {turn = turn} {sc = sc} {s = s} done e z fit) h o x =
         ended K proper g body c (In (OfBlock b fin all rest) f) (Ends (pos 0)) (closed b fin all body w) (λ k. refl)
         (block_closed K proper g body c turn b fin rest w fit o (registered_fine K proper g sc b fin done (s ∷ rest) h e z)
@@ -46,7 +47,8 @@ module _ (K : Kernel) (proper : is_proper K ≡ true) (g : ℕ) where
         (block_closed K proper g body c turn b fin [] w fit o (registered_fine K proper g sc b fin (out-KBlock b).list [] h (sym (append-nil (out-KBlock b).list)) z)
         (lie_more (λ k. frame_room K.codes g k (OfBlock b fin all []) body + 0 + c k) (λ k. frame_room K.codes g k (OfBlock b fin all []) body + c k) (λ k n. omega (arith, n)) w.values x))
 
-    block_leaves : {t : ℕ} {d e : Part} (b : KBlock) (fin : List KNode) (all : Instances) (rest : List KNode) (node : ℕ) (x : Exit) → FrameFits K t (OfBlock b fin all rest) d e → Sound K proper d → Covers K g c d body
+    block_leaves : {t : ℕ} {d e : Part} (b : KBlock) (fin : List KNode) (all : Instances) (rest : List KNode) (node : ℕ) (x : Exit)
+        → FrameFits K t (OfBlock b fin all rest) d e → Sound K proper d → Covers K g c d body
         → leaving.Leaves K g (λ h. focus_room K.codes g h f body) (plug f Over) e body → Before (OfBlock b fin all rest) (Leaves node x) → After (OfBlock b fin all rest) (Leaves node x)
     block_leaves b fin all rest node x (around_statement {turn = turn} {sc = sc} {s = s} done e z fit) h o ih l =
         body_left_lie K proper g body c (AStatement (block_scope sc b) s) (node == (out-KBlock b).node) turn b fin rest f node x w fit o (registered_fine K proper g sc b fin done (s ∷ rest) h e z)
@@ -54,7 +56,8 @@ module _ (K : Kernel) (proper : is_proper K ≡ true) (g : ℕ) where
     block_leaves b fin all rest node x (around_end {turn = turn} {sc = sc} z fit) h o ih l =
         body_left_lie K proper g body c AnEnd (node == (out-KBlock b).node) turn b fin [] f node x w fit o (registered_fine K proper g sc b fin (out-KBlock b).list [] h (sym (append-nil (out-KBlock b).list)) z) tt ih l
 
-    instance_ends : (b : KBlock) (fin : List KNode) (front : Instances) (seat : Seat) (back : Instances) (r : Residual) (rest : List KNode) (v : ℤ) → Before (OfInstance b fin front seat back r rest) (Ends v) → After (OfInstance b fin front seat back r rest) (Ends v)
+    instance_ends : (b : KBlock) (fin : List KNode) (front : Instances) (seat : Seat) (back : Instances) (r : Residual) (rest : List KNode) (v : ℤ)
+        → Before (OfInstance b fin front seat back r rest) (Ends v) → After (OfInstance b fin front seat back r rest) (Ends v)
     unfolding room
     instance_ends b fin front seat back r rest v x =
         let code : Held → ℕ = λ h. code_room K.codes g h (Spawned seat.number) (code_at seat.code K.codes) in
@@ -62,30 +65,35 @@ module _ (K : Kernel) (proper : is_proper K ≡ true) (g : ℕ) where
         lie_forget_body K.codes g (Spawned seat.number) (code_at seat.code K.codes) d w
         (lie_more (λ h. frame_room K.codes g h (OfInstance b fin front seat back r rest) body + 0 + c h) (λ h. code h + d h) (λ h n. (let a = join_all_room K.codes g h front back in omega (arith, a, n))) w.values x)
 
-    call_ends : {t : ℕ} {d e : Part} (s : KNode) (v : ℤ) → FrameFits K t (OfCall s) d e → Sound K proper d → Covers K g c d body → Before (OfCall s) (Ends v) → After (OfCall s) (Ends v)
+    call_ends : {t : ℕ} {d e : Part} (s : KNode) (v : ℤ) → FrameFits K t (OfCall s) d e → Sound K proper d → Covers K g c d body → Before (OfCall s) (Ends v)
+        → After (OfCall s) (Ends v)
     call_ends s v (around_call {sc = sc} i es z t k e q) h o x =
         ended K proper g body c (In (OfCall s) f) Past (assign_if body (target s) v (returned body s w)) (λ k. refl)
         (assign_if_lies K proper g sc (target s) v body c (returned body s w) o.0 o.1 (target_fine sc s h)
         (lie_forget_body K.codes g (Awaited body s.node) (called_code K.codes (out-KStmt s.stmt)) c w
         (lie_more (λ k. frame_room K.codes g k (OfCall s) body + 0 + c k) (λ k. frame_room K.codes g k (OfCall s) body + c k) (λ k n. omega (arith, n)) w.values x)))
 
-    part_ends : {t : ℕ} {d e : Part} (s : KNode) (v : ℤ) → FrameFits K t (OfOpen s) d e → Sound K proper d → Covers K g c d body → Before (OfOpen s) (Ends v) → After (OfOpen s) (Ends v)
+    part_ends : {t : ℕ} {d e : Part} (s : KNode) (v : ℤ) → FrameFits K t (OfOpen s) d e → Sound K proper d → Covers K g c d body → Before (OfOpen s) (Ends v)
+        → After (OfOpen s) (Ends v)
     part_ends s v (around_part {sc = sc} b p) h o x =
         ended K proper g body c (In (OfOpen s) f) Past (assign_if body (target s) v w) (λ k. refl)
         (assign_if_lies K proper g sc (target s) v body c w o.0 o.1 (target_fine sc s h) (lie_more (λ k. 0 + 0 + c k) c (λ k n. omega (arith, n)) w.values x))
 
-    part_leaves : {t : ℕ} {d e : Part} (s : KNode) (node : ℕ) (x : Exit) → FrameFits K t (OfOpen s) d e → Sound K proper d → Covers K g c d body → leaving.Leaves K g (λ h. focus_room K.codes g h f body) (plug f Over) e body
+    part_leaves : {t : ℕ} {d e : Part} (s : KNode) (node : ℕ) (x : Exit) → FrameFits K t (OfOpen s) d e → Sound K proper d → Covers K g c d body
+        → leaving.Leaves K g (λ h. focus_room K.codes g h f body) (plug f Over) e body
         → Before (OfOpen s) (Leaves node x) → After (OfOpen s) (Leaves node x)
     part_leaves s node x (around_part {sc = sc} b p) h o ih l =
         open_left_lie K proper g body c (ABlock false (part_scope K sc s.node (out-KStmt s.stmt)) b) (node == s.node) s sc f node x w o (target_fine sc s h)
         (covers_more K g (λ k. 0 + c k) c (ABlock false (part_scope K sc s.node (out-KStmt s.stmt)) b) body (λ k n. omega (arith, n)) (frame_covers K g {t = 0} {fr = OfOpen s} {d = AStatement sc s} {e = ABlock false (part_scope K sc s.node (out-KStmt s.stmt)) b} (around_part b p) c body o)) ih l
 
-    turn_leaves : {t : ℕ} {d e : Part} (s : KNode) (j : Counter) (node : ℕ) (x : Exit) → FrameFits K t (OfLoop s j) d e → Covers K g c d body → leaving.Leaves K g (λ h. focus_room K.codes g h f body) (plug f Over) e body
+    turn_leaves : {t : ℕ} {d e : Part} (s : KNode) (j : Counter) (node : ℕ) (x : Exit) → FrameFits K t (OfLoop s j) d e → Covers K g c d body
+        → leaving.Leaves K g (λ h. focus_room K.codes g h f body) (plug f Over) e body
         → Before (OfLoop s j) (Leaves node x) → After (OfLoop s j) (Leaves node x)
     turn_leaves s j node x (around_turn {sc = sc} k b e q) o ih l =
         loop_left_lie K proper g body c (ABlock true (turn_scope K sc s.node k) b) (node == s.node) s j f node x w (frame_covers K g {t = 0} {fr = OfLoop s j} {d = AStatement sc s} {e = ABlock true (turn_scope K sc s.node k) b} (around_turn k b e q) c body o) ih l
 
-    branch_ends : {t : ℕ} {d e : Part} (s : KNode) (front back : Branches) (v : ℤ) → FrameFits K t (OfPar s front back) d e → Sound K proper d → Covers K g c d body → Before (OfPar s front back) (Ends v) → After (OfPar s front back) (Ends v)
+    branch_ends : {t : ℕ} {d e : Part} (s : KNode) (front back : Branches) (v : ℤ) → FrameFits K t (OfPar s front back) d e → Sound K proper d
+        → Covers K g c d body → Before (OfPar s front back) (Ends v) → After (OfPar s front back) (Ends v)
     unfolding room aborted
     branch_ends s front back v (around_branch {sc = sc} k slot bs b cs e y z) h o x =
         rejoined_lie K proper g body c (kind_of (out-KStmt s.stmt)) s bs' (In (OfPar s front back) f) w gone
@@ -99,7 +107,8 @@ module _ (K : Kernel) (proper : is_proper K ≡ true) (g : ℕ) where
             branches_lie K proper g b (λ j. 0) Over body c w y z (layer_of K proper sc s (KStmt-F.Par k slot (bs ++ b ∷ cs)) e h).1 o.0 o.1 (λ d u p n. lie_rest d u n)
             (lie_more (λ j. each_room K.codes g j bs' body + c j) (λ j. each_room K.codes g j front body + each_room K.codes g j back body + 0 + c j) (λ j n. (let a = join_room K.codes g j front (branch Over back) body in omega (arith, a, n))) w.values l)
 
-    through_lie : {t : ℕ} {d e : Part} (fr : Frame) (x : Outcome) → FrameFits K t fr d e → Sound K proper d → Covers K g c d body → leaving.Leaves K g (λ h. focus_room K.codes g h f (body_in fr body)) (plug f Over) e (body_in fr body) → Before fr x → After fr x
+    through_lie : {t : ℕ} {d e : Part} (fr : Frame) (x : Outcome) → FrameFits K t fr d e → Sound K proper d → Covers K g c d body
+        → leaving.Leaves K g (λ h. focus_room K.codes g h f (body_in fr body)) (plug f Over) e (body_in fr body) → Before fr x → After fr x
     unfolding focus_room
     through_lie fr (Goes q) a h o ih l = l
     through_lie fr (Rests r) a h o ih l = lie_more (λ k. frame_room K.codes g k fr body + room K.codes g k r (body_in fr body) + c k) (λ k. room K.codes g k (fill fr r) body + c k) (λ k n. (let z = fill_room K.codes g k fr r body in omega (arith, z, n))) w.values l
@@ -125,7 +134,8 @@ module _ (K : Kernel) (proper : is_proper K ≡ true) (g : ℕ) where
         over : (fr : Frame) → LieIn (λ k. frame_room K.codes g k fr body + 0 + c k) w → Left K proper g c body (In fr f) (moved (Rests (fill fr Over)) w)
         over fr m = lie_more (λ k. frame_room K.codes g k fr body + 0 + c k) (λ k. room K.codes g k (fill fr Over) body + c k) (λ k n. (let z = fill_room K.codes g k fr Over body in omega (arith, z, n))) w.values m
 
-  pub up_lie : {t : ℕ} {f : Focus Act} {d e : Part} → Around K t Act f d e → Sound K proper d → (x : Outcome) (body : Body) (c : Held → ℕ) (w : World) → Covers K g c d body → ((h : Held) (b : Body) (a : Act) → left K proper g h b (Here a) x ≡ 0)
+  pub up_lie : {t : ℕ} {f : Focus Act} {d e : Part} → Around K t Act f d e → Sound K proper d → (x : Outcome) (body : Body) (c : Held → ℕ) (w : World)
+      → Covers K g c d body → ((h : Held) (b : Body) (a : Act) → left K proper g h b (Here a) x ≡ 0)
       → LieIn (λ h. focus_room K.codes g h f body + c h) w → Left K proper g c body f (up body f x w)
   unfolding up focus_room
   up_lie {f = Here a} nothing_around h x body c w o z l = ended K proper g body c (Here a) x w (λ k. z k body a) (lie_rest c w l)
@@ -133,6 +143,6 @@ module _ (K : Kernel) (proper : is_proper K ≡ true) (g : ℕ) where
       let m = up (body_in fr body) f x w in
       let i : Held → ℕ = λ k. frame_room K.codes g k fr body + c k in
       let inner = up_lie more (frame_sound K proper a h) x (body_in fr body) i w (frame_covers K g a c body o) z
-          (lie_more (λ k. frame_room K.codes g k fr body + focus_room K.codes g k f (body_in fr body) + c k) (λ k. focus_room K.codes g k f (body_in fr body) + i k) (λ k n. omega (arith, n)) w.values l) in
+      (lie_more (λ k. frame_room K.codes g k fr body + focus_room K.codes g k f (body_in fr body) + c k) (λ k. focus_room K.codes g k f (body_in fr body) + i k) (λ k n. omega (arith, n)) w.values l) in
       through_lie body c f m.world fr m.outcome a h o (focus_leaves K proper g more (frame_sound K proper a h) (body_in fr body))
       (lie_more (λ k. left K proper g k (body_in fr body) f m.outcome + i k) (λ k. frame_room K.codes g k fr body + left K proper g k (body_in fr body) f m.outcome + c k) (λ k n. omega (arith, n)) m.world.values inner)

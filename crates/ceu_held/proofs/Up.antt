@@ -47,7 +47,8 @@ module _ (K : Kernel) (proper : is_proper K ≡ true) (g : ℕ) where
     pub ended : (f : Focus Act) (x : Outcome) (u : World) → ((h : Held) → left h body f x ≡ 0) → LieIn c u → Left c body f (moved x u)
     ended f x u e l = lie_more c (λ h. left h body f x + c h) (λ h n. (let a = e h in omega (arith, a, n))) u.values l
 
-    pub stays : (m : Held → ℕ) (f : Focus Act) (x : Outcome) (w : World) → ((h : Held) → m h ≡ left h body f x) → LieIn (λ h. m h + c h) w → Left c body f (moved x w)
+    pub stays : (m : Held → ℕ) (f : Focus Act) (x : Outcome) (w : World) → ((h : Held) → m h ≡ left h body f x) → LieIn (λ h. m h + c h) w
+        → Left c body f (moved x w)
     stays m f x w e l = lie_more (λ h. m h + c h) (λ h. left h body f x + c h) (λ h n. (let a = e h in omega (arith, a, n))) w.values l
 
     either : (f : Focus Act) (b : Bool) (x y : Moved) → Left c body f x → Left c body f y → Left c body f (if b then x else y)
@@ -56,13 +57,15 @@ module _ (K : Kernel) (proper : is_proper K ≡ true) (g : ℕ) where
 
     -- ---- blocks
 
-    pub block_closed : {t : ℕ} {sc : Scope} {all : Instances} (turn : Bool) (b : KBlock) (fin rest : List KNode) (w : World) → AllFit K t sc all → Covers K g c (ABlock turn sc b) body → nodes_fine K (names_of K) (block_scope sc b) fin
+    pub block_closed : {t : ℕ} {sc : Scope} {all : Instances} (turn : Bool) (b : KBlock) (fin rest : List KNode) (w : World) → AllFit K t sc all
+        → Covers K g c (ABlock turn sc b) body → nodes_fine K (names_of K) (block_scope sc b) fin
         → LieIn (λ h. frame_room K.codes g h (OfBlock b fin all rest) body + c h) w → LieIn c (closed b fin all body w)
     block_closed {all = all} turn b fin rest w fit o f x =
         closed_lie K proper g turn b fin body c w fit o f
         (lie_more (λ h. frame_room K.codes g h (OfBlock b fin all rest) body + c h) (λ h. all_room K.codes g h all + (decls_room K.codes g h body (out-KBlock b).decls + c h)) (λ h n. omega (arith, n)) w.values x)
 
-    pub body_left_lie : {t : ℕ} {sc : Scope} {all : Instances} (e : Part) (v turn : Bool) (b : KBlock) (fin rest : List KNode) (f : Focus Act) (node : ℕ) (x : Exit) (w : World) → AllFit K t sc all → Covers K g c (ABlock turn sc b) body
+    pub body_left_lie : {t : ℕ} {sc : Scope} {all : Instances} (e : Part) (v turn : Bool) (b : KBlock) (fin rest : List KNode) (f : Focus Act) (node : ℕ) (x : Exit) (w : World)
+        → AllFit K t sc all → Covers K g c (ABlock turn sc b) body
         → nodes_fine K (names_of K) (block_scope sc b) fin → Covers K g (λ h. frame_room K.codes g h (OfBlock b fin all rest) body + c h) e body → leaving.Leaves K g (λ h. focus_room K.codes g h f body) (plug f Over) e body
         → LieIn (λ h. frame_room K.codes g h (OfBlock b fin all rest) body + focus_room K.codes g h f body + c h) w → Left c body (In (OfBlock b fin all rest) f) (body_left v b fin all f body node x w)
     unfolding focus_room
@@ -74,7 +77,8 @@ module _ (K : Kernel) (proper : is_proper K ≡ true) (g : ℕ) where
 
     -- ---- do and if
 
-    pub open_left_lie : (e : Part) (v : Bool) (s : KNode) (sc : Scope) (f : Focus Act) (node : ℕ) (x : Exit) (w : World) → Covers K g c (AStatement sc s) body → target_takes K (names_of K) sc (target s) → Covers K g c e body
+    pub open_left_lie : (e : Part) (v : Bool) (s : KNode) (sc : Scope) (f : Focus Act) (node : ℕ) (x : Exit) (w : World) → Covers K g c (AStatement sc s) body
+        → target_takes K (names_of K) sc (target s) → Covers K g c e body
         → leaving.Leaves K g (λ h. focus_room K.codes g h f body) (plug f Over) e body → LieIn (λ h. 0 + focus_room K.codes g h f body + c h) w → Left c body (In (OfOpen s) f) (open_left v s f body node x w)
     unfolding focus_room
     open_left_lie e true s sc f node x w o q p ih l =
@@ -85,19 +89,23 @@ module _ (K : Kernel) (proper : is_proper K ≡ true) (g : ℕ) where
 
     -- ---- loops
 
-    loop_past : (s : KNode) (f : Focus Act) (u : World) → LieIn (λ h. layer_room K.codes g h body (out-KStmt s.stmt) + c h) u → Left c body f (moved Past (forget_loop body s.stmt u))
+    loop_past : (s : KNode) (f : Focus Act) (u : World) → LieIn (λ h. layer_room K.codes g h body (out-KStmt s.stmt) + c h) u
+        → Left c body f (moved Past (forget_loop body s.stmt u))
     loop_past s f u l = ended f Past (forget_loop body s.stmt u) (λ h. refl) (lie_forget_loop K.codes g body s.stmt c u l)
 
-    pub loop_on : (s : KNode) (j : Counter) (a : Act) (f : Focus Act) (u : World) → LieIn (λ h. layer_room K.codes g h body (out-KStmt s.stmt) + c h) u → Left c body f (moved (Goes (In (OfLoop s j) (Here a))) u)
+    pub loop_on : (s : KNode) (j : Counter) (a : Act) (f : Focus Act) (u : World) → LieIn (λ h. layer_room K.codes g h body (out-KStmt s.stmt) + c h) u
+        → Left c body f (moved (Goes (In (OfLoop s j) (Here a))) u)
     unfolding focus_room
     loop_on s j a f u l = stays (λ h. layer_room K.codes g h body (out-KStmt s.stmt)) f (Goes (In (OfLoop s j) (Here a))) u (λ h. omega arith) l
 
-    loop_exit_lie : (s : KNode) (j : Counter) (x : Exit) (f : Focus Act) (u : World) → LieIn (λ h. layer_room K.codes g h body (out-KStmt s.stmt) + c h) u → Left c body f (loop_exit s j x body u)
+    loop_exit_lie : (s : KNode) (j : Counter) (x : Exit) (f : Focus Act) (u : World) → LieIn (λ h. layer_room K.codes g h body (out-KStmt s.stmt) + c h) u
+        → Left c body f (loop_exit s j x body u)
     loop_exit_lie s j Continue f u l = loop_on s j Again f u l
     loop_exit_lie s j Break f u l = loop_past s f u l
     loop_exit_lie s j (Escape v) f u l = loop_past s f u l
 
-    pub loop_left_lie : (e : Part) (v : Bool) (s : KNode) (j : Counter) (f : Focus Act) (node : ℕ) (x : Exit) (w : World) → Covers K g (λ h. layer_room K.codes g h body (out-KStmt s.stmt) + c h) e body
+    pub loop_left_lie : (e : Part) (v : Bool) (s : KNode) (j : Counter) (f : Focus Act) (node : ℕ) (x : Exit) (w : World)
+        → Covers K g (λ h. layer_room K.codes g h body (out-KStmt s.stmt) + c h) e body
         → leaving.Leaves K g (λ h. focus_room K.codes g h f body) (plug f Over) e body → LieIn (λ h. layer_room K.codes g h body (out-KStmt s.stmt) + focus_room K.codes g h f body + c h) w
         → Left c body (In (OfLoop s j) f) (loop_left v s j f body node x w)
     unfolding focus_room
@@ -107,7 +115,8 @@ module _ (K : Kernel) (proper : is_proper K ≡ true) (g : ℕ) where
         (ih i w p (lie_more (λ h. layer_room K.codes g h body (out-KStmt s.stmt) + focus_room K.codes g h f body + c h) (λ h. focus_room K.codes g h f body + i h) (λ h n. omega (arith, n)) w.values l))
     loop_left_lie e false s j f node x w p ih l = l
 
-    turn_lie : (s : KNode) (k : KLoop) (b : KBlock) (j : Counter) (f : Focus Act) (w : World) → out-KStmt s.stmt ≡ KStmt-F.Loop k b → LieIn (λ h. layer_room K.codes g h body (out-KStmt s.stmt) + c h) w → Left c body f (turn_of s k b j body w)
+    turn_lie : (s : KNode) (k : KLoop) (b : KBlock) (j : Counter) (f : Focus Act) (w : World) → out-KStmt s.stmt ≡ KStmt-F.Loop k b
+        → LieIn (λ h. layer_room K.codes g h body (out-KStmt s.stmt) + c h) w → Left c body f (turn_of s k b j body w)
     turn_lie s (turns.Times slot limit) b (Turns k) f w e l =
         either f (k == limit) _ _ (lie_more (λ h. layer_room K.codes g h body (out-KStmt s.stmt) + c h) (λ h. 1 + c h) (λ h n. omega arith) w.values l) (loop_on s (Turns (k + 1)) (Begin b) f w l)
     turn_lie s (turns.Range i next end open_a x y open_b) b (Upward v last) f w e l =
@@ -119,7 +128,8 @@ module _ (K : Kernel) (proper : is_proper K ≡ true) (g : ℕ) where
             let n = at_one K g body i i (kind.Var ty.S32) (Holds v) (eq-eqb i i refl) refl in omega (arith, a, n)
     turn_lie s k b j f w e l = loop_on s j (Begin b) f w l
 
-    pub next_turn_lie : (s : KNode) (layer : Layer) (j : Counter) (f : Focus Act) (w : World) → out-KStmt s.stmt ≡ layer → LieIn (λ h. layer_room K.codes g h body (out-KStmt s.stmt) + c h) w → Left c body f (next_turn s layer j body w)
+    pub next_turn_lie : (s : KNode) (layer : Layer) (j : Counter) (f : Focus Act) (w : World) → out-KStmt s.stmt ≡ layer
+        → LieIn (λ h. layer_room K.codes g h body (out-KStmt s.stmt) + c h) w → Left c body f (next_turn s layer j body w)
     next_turn_lie s (KStmt-F.Loop k b) j f w e l = turn_lie s k b j f w e l
     next_turn_lie s layer j f w e l = subst (λ x. LieIn (λ h. layer_room K.codes g h body x + c h) w) e l
 
@@ -134,7 +144,9 @@ module _ (K : Kernel) (proper : is_proper K ≡ true) (g : ℕ) where
         one Over q = refl
         one r q = absurd (false≢true q)
 
-    pub rejoined_lie : (k : ParKind) (s : KNode) (bs : Branches) (f : Focus Act) (w : World) → (LieIn (λ h. each_room K.codes g h bs body + c h) w → LieIn c (aborted (Par s bs) body w)) → LieIn (λ h. each_room K.codes g h bs body + c h) w → Left c body f (rejoined k s bs body w)
+    pub rejoined_lie : (k : ParKind) (s : KNode) (bs : Branches) (f : Focus Act) (w : World)
+        → (LieIn (λ h. each_room K.codes g h bs body + c h) w → LieIn c (aborted (Par s bs) body w)) → LieIn (λ h. each_room K.codes g h bs body + c h) w
+        → Left c body f (rejoined k s bs body w)
     unfolding room
     rejoined_lie par.Never s bs f w q l = l
     rejoined_lie par.Or s bs f w q l = ended f Past (aborted (Par s bs) body w) (λ h. refl) (q l)

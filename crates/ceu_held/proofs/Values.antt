@@ -65,26 +65,31 @@ module _ (codes : List KCode) (g : ℕ) where
       go true false e = refl
       go false b e = refl
 
-  pub lie_forget : (body : Body) (slot : ℕ) (k : KKind) (c : Held → ℕ) (w : World) → Lie (λ h. at_room codes g h body slot k + c h) w.values → Lie c (forget body slot w).values
+  pub lie_forget : (body : Body) (slot : ℕ) (k : KKind) (c : Held → ℕ) (w : World) → Lie (λ h. at_room codes g h body slot k + c h) w.values
+      → Lie c (forget body slot w).values
   lie_forget body slot k c w l = lie_filter (λ h. at_room codes g h body slot k + c h) c (λ h. not (is_at body slot h)) (λ h e n. (let a = elsewhere h body slot k e in omega (arith, a, n))) w.values l
 
-  pub lie_forget_declared : (body : Body) (ds : List KDecl) (c : Held → ℕ) (w : World) → Lie (λ h. decls_room codes g h body ds + c h) w.values → Lie c (forget_declared body ds w).values
+  pub lie_forget_declared : (body : Body) (ds : List KDecl) (c : Held → ℕ) (w : World) → Lie (λ h. decls_room codes g h body ds + c h) w.values
+      → Lie c (forget_declared body ds w).values
   lie_forget_declared body [] c w l = lie_more (λ h. 0 + c h) c (λ h n. omega (arith, n)) w.values l
   lie_forget_declared body (d ∷ ds) c w l =
       lie_forget_declared body ds c (forget body d.slot w)
       (lie_forget body d.slot d.kind (λ h. decls_room codes g h body ds + c h) w
       (lie_more (λ h. at_room codes g h body d.slot d.kind + decls_room codes g h body ds + c h) (λ h. at_room codes g h body d.slot d.kind + (decls_room codes g h body ds + c h)) (λ h n. omega (arith, n)) w.values l))
 
-  lie_forget_turns : (body : Body) (k : KLoop) (c : Held → ℕ) (w : World) → Lie (λ h. turns_room codes g h body k + c h) w.values → Lie c (forget_turns body k w).values
+  lie_forget_turns : (body : Body) (k : KLoop) (c : Held → ℕ) (w : World) → Lie (λ h. turns_room codes g h body k + c h) w.values
+      → Lie c (forget_turns body k w).values
   lie_forget_turns body (turns.Range i next end open_a a b open_b) c w l = lie_forget body i (kind.Var ty.S32) c w l
   lie_forget_turns body turns.Free c w l = lie_more (λ h. 0 + c h) c (λ h n. omega (arith, n)) w.values l
   lie_forget_turns body (turns.Times slot n) c w l = lie_more (λ h. 0 + c h) c (λ h n. omega (arith, n)) w.values l
 
-  lie_forget_layer : (body : Body) (layer : Layer) (c : Held → ℕ) (w : World) → Lie (λ h. layer_room codes g h body layer + c h) w.values → Lie c (forget_layer body layer w).values
+  lie_forget_layer : (body : Body) (layer : Layer) (c : Held → ℕ) (w : World) → Lie (λ h. layer_room codes g h body layer + c h) w.values
+      → Lie c (forget_layer body layer w).values
   lie_forget_layer body (KStmt-F.Loop k b) c w l = lie_forget_turns body k c w l
   lie_forget_layer body layer c w l = lie_more (λ h. 0 + c h) c (λ h n. omega (arith, n)) w.values l
 
-  pub lie_forget_loop : (body : Body) (st : KStmt) (c : Held → ℕ) (w : World) → Lie (λ h. layer_room codes g h body (out-KStmt st) + c h) w.values → Lie c (forget_loop body st w).values
+  pub lie_forget_loop : (body : Body) (st : KStmt) (c : Held → ℕ) (w : World) → Lie (λ h. layer_room codes g h body (out-KStmt st) + c h) w.values
+      → Lie c (forget_loop body st w).values
   lie_forget_loop body st c w l = subst (λ u. Lie c u.values) (sym (forget_loop_is body st w)) (lie_forget_layer body (out-KStmt st) c w l)
 
   another : (h : Held) (body : Body) (ds : List KDecl) → not (same_body body h.body) ≡ true → decls_room codes g h body ds ≡ 0
@@ -103,7 +108,8 @@ module _ (codes : List KCode) (g : ℕ) where
   another_code h body None e = refl
   another_code h body (Some k) e = another h body k.params e
 
-  pub lie_forget_body : (body : Body) (o : Option KCode) (c : Held → ℕ) (w : World) → Lie (λ h. code_room codes g h body o + c h) w.values → Lie c (forget_body body w).values
+  pub lie_forget_body : (body : Body) (o : Option KCode) (c : Held → ℕ) (w : World) → Lie (λ h. code_room codes g h body o + c h) w.values
+      → Lie c (forget_body body w).values
   lie_forget_body body o c w l =
       lie_filter (λ h. code_room codes g h body o + c h) c (λ h. not (same_body body h.body)) (λ h e n. (let a = another_code h body o e in omega (arith, a, n))) w.values l
 

@@ -60,7 +60,8 @@ module _ (K : Kernel) (names : List (List ℕ)) where
   on_takes sc None t h = absurd (false≢true h)
   on_takes sc (Some u) t h = if_takes sc u t h
 
-  code_takes : (sc : Scope) (o : Option KCode) (es : _) (t : Option Loc) → (elim o [ None ↦ false | Some k ↦ gives_all K sc k.params es && takes_if K sc k.result t ]) ≡ true → target_takes sc t
+  code_takes : (sc : Scope) (o : Option KCode) (es : _) (t : Option Loc)
+      → (elim o [ None ↦ false | Some k ↦ gives_all K sc k.params es && takes_if K sc k.result t ]) ≡ true → target_takes sc t
   code_takes sc None es t h = absurd (false≢true h)
   code_takes sc (Some k) es t h = if_takes sc k.result t (last_holds (gives_all K sc k.params es) _ h)
 
@@ -127,7 +128,8 @@ module _ (K : Kernel) (names : List (List ℕ)) where
       subst (λ ds. nodes_fine K names (with_decls ds (in_finalizer K sc)) (out-KBlock b).list) (finalizer_decls sc b x) (block_static K names (in_finalizer K sc) b x)
   finalizer_fine sc n st h = tt
 
-  pub finalizers_fine : (sc : Scope) (found done : List KNode) → nodes_fine K names sc found → nodes_fine K names sc done → nodes_fine K names sc (finalizers_of found done)
+  pub finalizers_fine : (sc : Scope) (found done : List KNode) → nodes_fine K names sc found → nodes_fine K names sc done
+      → nodes_fine K names sc (finalizers_of found done)
   finalizers_fine sc found [] h k = h
   finalizers_fine sc found (s ∷ ss) h k = finalizers_fine sc (if is_finalizer s.stmt then s ∷ found else found) ss (go (is_finalizer s.stmt)) k.1
     where
@@ -154,7 +156,8 @@ variables_are K names (d ∷ ds) h = (go d.kind refl (first_holds (is_parameter 
     go (kind.Alias c) e q = absurd (false≢true q)
     go (kind.Pool n c) e q = absurd (false≢true q)
 
-codes_variables : (K : Kernel) (names : List (List ℕ)) (i c : ℕ) (cs : List KCode) (k : KCode) → codes_ok K names i cs ≡ true → code_at c cs ≡ Some k → all_variables k.params
+codes_variables : (K : Kernel) (names : List (List ℕ)) (i c : ℕ) (cs : List KCode) (k : KCode) → codes_ok K names i cs ≡ true → code_at c cs ≡ Some k
+    → all_variables k.params
 codes_variables K names i c [] k h e = absurd (cc)
 codes_variables K names i zero (x ∷ cs) k h e =
     let same : x ≡ k = ap (λ o. elim o [ None ↦ x | Some y ↦ y ]) e in
