@@ -1,5 +1,5 @@
 -- From the machine that a run leaves to the one that the whole does.
-use Rattle.std.proofs.Common.{◌≡◌, sym, subst, inl, inr, ℕ, List, Option, Some, None, Result, Ok, Err}
+use Rattle.std.proofs.Common.{◌≡◌, sym, subst, inl, inr, ℕ, List, Option, Some, None, Ok, Err}
 use Rattle.std.specs.Prelude.{IfSome, MatchOption, String}
 use Rattle.std.specs.Global.{Vec}
 use Rattle.ceu_code.specs.declared.image.Image.{Image}

@@ -1,6 +1,6 @@
-use Rattle.std.proofs.Common.{refl, ap}
+use Rattle.std.proofs.Common.{ap}
 use Rattle.ceu_forms.proofs.Same.{runs_single}
-use Rattle.ceu_top.proofs.Answering.{run_is, text_printed, memory_wanted, text_unmet}
+use Rattle.ceu_top.proofs.Answering.{run_is, text_unmet}
 use Rattle.ceu_top.proofs.Compiling.{compiled}
 use Rattle.ceu_top.proofs.Leaving.{run_left}
 use Rattle.ceu_top.proofs.running.run_built.Goals as goal
