@@ -1,0 +1,11 @@
+pub mod Grips
+pub mod Trees
+pub mod Places
+pub mod Bounds
+pub mod Settled
+pub mod Aborts
+pub mod Leaf
+pub mod Up
+pub mod Steps
+pub mod Reactions
+pub mod Runs

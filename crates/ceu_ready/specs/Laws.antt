@@ -1,0 +1,41 @@
+-- The laws on the slots that have a value in the configurations of a proper kernel.
+use Rattle.std.specs.Prelude.{◌≡◌, ℕ, suc, true, List}
+use Rattle.ceu_tree.specs.declared.command.Command.{Command}
+use Rattle.ceu_tree.specs.declared.kernel.Kernel.{Kernel}
+use Rattle.ceu_tree.specs.Residual.{Program, Act}
+use Rattle.ceu_tree.specs.Focus.{Focus, leaf, body_of}
+use Rattle.ceu_tree.specs.World.{World}
+use Rattle.ceu_tree.specs.Proper.{Proper}
+use Rattle.ceu_tree.specs.Run.{Config, Turning, booted, next, steps, done, run}
+use Rattle.ceu_legal.specs.Shape.{ConfigFits}
+use Rattle.ceu_values.specs.Ready.{act_has}
+use Rattle.ceu_living.specs.Instances.{InstancesStand}
+use Rattle.ceu_ready.specs.Needed.{Stocked}
+
+abbrev pub BootStocked : Type 0
+BootStocked = (K : Kernel) → Stocked K (booted K)
+
+abbrev pub StepStocked : Type 0
+StepStocked = (K : Kernel) (c : Config) → Proper K → ConfigFits K c → InstancesStand c → Stocked K c → Stocked K (next K c)
+
+abbrev pub ReactionStocked : Type 0
+ReactionStocked = (K : Kernel) (n : ℕ) (c : Config) → Proper K → ConfigFits K c → InstancesStand c → Stocked K c → Stocked K (steps K n c)
+
+abbrev pub CommandStocked : Type 0
+CommandStocked = (K : Kernel) (n : ℕ) (x : Command) (c : Config) → Proper K → ConfigFits K c → InstancesStand c → Stocked K c → Stocked K (done K n x c)
+
+abbrev pub RunStocked : Type 0
+RunStocked = (K : Kernel) (n : ℕ) (xs : List Command) → Proper K → Stocked K (run K n xs)
+
+-- So a turn reads no slot of its own body without a value: each one that the expressions of the statement at which it is name has one, and each alias that it asks for.
+abbrev pub TurnReads : Type 0
+TurnReads = (K : Kernel) (n : ℕ) (f : Focus Act) (w : World) → Proper K → ConfigFits K (Turning n f w) → Stocked K (Turning n f w) → act_has (body_of f Program) w (leaf f) ≡ true
+
+-- as in the reaction of boot
+abbrev pub BootReads : Type 0
+BootReads = (K : Kernel) (k n : ℕ) (f : Focus Act) (w : World) → Proper K → steps K k (booted K) ≡ Turning n f w → act_has (body_of f Program) w (leaf f) ≡ true
+
+-- and of a command's reactions, which follow a run
+abbrev pub CommandReads : Type 0
+CommandReads =
+    (K : Kernel) (m k n : ℕ) (xs : List Command) (x : Command) (f : Focus Act) (w : World) → Proper K → done K k x (run K m xs) ≡ Turning n f w → act_has (body_of f Program) w (leaf f) ≡ true

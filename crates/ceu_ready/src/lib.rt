@@ -1,0 +1,21 @@
+//! Laws of the reference semantics on the slots that have a value, each the contract of a function with an empty body.
+//!
+//! In each configuration of a run of a proper kernel, with code, pools and instances, each slot of an open body that needs a value has one.
+#![tactic(auto)]
+
+ghost use Rattle.ceu_ready.specs.Laws.{BootReads, BootStocked, CommandReads, CommandStocked, ReactionStocked, RunStocked, StepStocked, TurnReads};
+
+/// At the start no slot needs a value.
+pub fn boot_stocked()
+    ensures { BootStocked }
+{}
+
+/// A step of a configuration that fits a proper kernel, with the instances that live in their places, leaves a value to each slot that needs one.
+pub fn step_stocked()
+    ensures { StepStocked }
+{}
+
+/// So does any number of steps of a reaction.
+pub fn reaction_stocked()
+    ensures { ReactionStocked }
+{}
