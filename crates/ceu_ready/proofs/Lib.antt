@@ -8,4 +8,5 @@ pub mod Leaf
 pub mod Up
 pub mod Steps
 pub mod Reactions
+pub mod Commands
 pub mod Runs

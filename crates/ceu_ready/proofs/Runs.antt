@@ -10,6 +10,7 @@ use Rattle.ceu_living.specs.Instances.{InstancesStand}
 use Rattle.ceu_living.proofs.Reactions.{instances_counted}
 use Rattle.ceu_ready.specs.Needed.{Stocked}
 use Rattle.ceu_ready.proofs.Reactions.{OneStocked, next_stocked, steps_stocked}
+use Rattle.ceu_ready.proofs.Commands.{done_stands, run_stands}
 
 every : (K : Kernel) (c : Config) → ((b : Body) (x : ℕ) → OneStocked K b x c) → Stocked K c
 every K (Turning n f w) h = λ b x. h b x
@@ -31,3 +32,9 @@ module _ (K : Kernel) (proper : is_proper K ≡ true) where
 
   pub steps_all : (n : ℕ) (c : Config) → ConfigFits K c → InstancesStand c → Stocked K c → Stocked K (steps K n c)
   steps_all n c t i h = every K (steps K n c) (λ b x. steps_stocked K proper b x n c t (instances_counted K proper c t i) (one K c b x h))
+
+  pub done_all : (n : ℕ) (y : Command) (c : Config) → ConfigFits K c → InstancesStand c → Stocked K c → Stocked K (done K n y c)
+  done_all n y c t i h = every K (done K n y c) (λ b x. done_stands K proper b x n y c t (instances_counted K proper c t i) (one K c b x h))
+
+  pub run_all : (n : ℕ) (ys : List Command) → Stocked K (run K n ys)
+  run_all n ys = every K (run K n ys) (λ b x. run_stands K proper b x n ys)

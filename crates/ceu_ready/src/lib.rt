@@ -15,7 +15,17 @@ pub fn step_stocked()
     ensures { StepStocked }
 {}
 
-/// So does any number of steps of a reaction.
+/// So does any number of steps of a reaction,
 pub fn reaction_stocked()
     ensures { ReactionStocked }
+{}
+
+/// and an input, an advance of the clock and idle turns.
+pub fn command_stocked()
+    ensures { CommandStocked }
+{}
+
+/// So it is in each configuration of every run of a proper kernel.
+pub fn run_stocked()
+    ensures { RunStocked }
 {}
