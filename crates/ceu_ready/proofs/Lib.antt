@@ -9,4 +9,6 @@ pub mod Up
 pub mod Steps
 pub mod Reactions
 pub mod Commands
+pub mod Turns
+pub mod Slots
 pub mod Runs

@@ -2,15 +2,16 @@
 use Rattle.std.specs.Prelude.{◌≡◌, ℕ, suc, true, List}
 use Rattle.ceu_tree.specs.declared.command.Command.{Command}
 use Rattle.ceu_tree.specs.declared.kernel.Kernel.{Kernel}
-use Rattle.ceu_tree.specs.Residual.{Program, Act}
+use Rattle.ceu_tree.specs.Residual.{Program, Act, Residual}
 use Rattle.ceu_tree.specs.Focus.{Focus, leaf, body_of}
 use Rattle.ceu_tree.specs.World.{World}
 use Rattle.ceu_tree.specs.Proper.{Proper}
-use Rattle.ceu_tree.specs.Run.{Config, Turning, booted, next, steps, done, run}
+use Rattle.ceu_tree.specs.Run.{Config, Turning, Waiting, booted, next, steps, done, run}
 use Rattle.ceu_legal.specs.Shape.{ConfigFits}
 use Rattle.ceu_values.specs.Ready.{act_has}
 use Rattle.ceu_living.specs.Instances.{InstancesStand}
 use Rattle.ceu_ready.specs.Needed.{Stocked}
+use Rattle.ceu_ready.specs.Slots.{slots_set}
 
 abbrev pub BootStocked : Type 0
 BootStocked = (K : Kernel) → Stocked K (booted K)
@@ -39,3 +40,9 @@ BootReads = (K : Kernel) (k n : ℕ) (f : Focus Act) (w : World) → Proper K �
 abbrev pub CommandReads : Type 0
 CommandReads =
     (K : Kernel) (m k n : ℕ) (xs : List Command) (x : Command) (f : Focus Act) (w : World) → Proper K → done K k x (run K m xs) ≡ Turning n f w → act_has (body_of f Program) w (leaf f) ≡ true
+
+-- ---- in the words of legality
+
+-- where a run of a proper kernel waits, what is set has a value, and each parameter
+abbrev pub RunSetLegal : Type 0
+RunSetLegal = (K : Kernel) (n : ℕ) (xs : List Command) (r : Residual) (w : World) → Proper K → run K n xs ≡ Waiting r w → slots_set K.codes w r Program ≡ true

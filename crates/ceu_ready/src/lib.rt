@@ -3,7 +3,7 @@
 //! In each configuration of a run of a proper kernel, with code, pools and instances, each slot of an open body that needs a value has one.
 #![tactic(auto)]
 
-ghost use Rattle.ceu_ready.specs.Laws.{BootReads, BootStocked, CommandReads, CommandStocked, ReactionStocked, RunStocked, StepStocked, TurnReads};
+ghost use Rattle.ceu_ready.specs.Laws.{BootReads, BootStocked, CommandReads, CommandStocked, ReactionStocked, RunSetLegal, RunStocked, StepStocked, TurnReads};
 
 /// At the start no slot needs a value.
 pub fn boot_stocked()
@@ -28,4 +28,24 @@ pub fn command_stocked()
 /// So it is in each configuration of every run of a proper kernel.
 pub fn run_stocked()
     ensures { RunStocked }
+{}
+
+/// So the statement at which a turn is reads no slot of its own body without a value when it starts.
+pub fn turn_reads()
+    ensures { TurnReads }
+{}
+
+/// In no step of boot's reaction a proper kernel reads one.
+pub fn boot_reads()
+    ensures { BootReads }
+{}
+
+/// Nor does it in a step of the reactions of a command after a run.
+pub fn command_reads()
+    ensures { CommandReads }
+{}
+
+/// Where a run waits, each declaration of an open block that is set there has a value, and each parameter, as a legal configuration has it.
+pub fn run_set_legal()
+    ensures { RunSetLegal }
 {}
