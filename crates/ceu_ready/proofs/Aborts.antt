@@ -14,14 +14,14 @@ use Rattle.ceu_tree.specs.Step.{unseated, unseat_frame, unseat, killed_in, kill_
 use Rattle.ceu_values.specs.Ground.{has}
 use Rattle.ceu_values.proofs.Stores.{finalized_keeps}
 use Rattle.ceu_living.proofs.Living.{often}
-use Rattle.ceu_counters.proofs.Cells.{forget_declared_apart, forget_body_apart, forget_loop_apart}
+use Rattle.ceu_counters.proofs.Cells.{forget_body_apart, forget_loop_apart}
 use Rattle.ceu_counters.proofs.Grips.{point, own}
 use Rattle.ceu_counters.proofs.Aborts.{not_own, not_body}
-use Rattle.ceu_ready.proofs.Grips.{slots_grip, given_grip, grip, grip_each, grip_all, frame_grip, focus_grip, over_grip, unseat_frame_less, unseat_body, unseat_less}
+use Rattle.ceu_ready.proofs.Grips.{slots_grip, grip, grip_each, grip_all, frame_grip, focus_grip, over_grip, unseat_frame_less, unseat_body, unseat_less}
 use Rattle.ceu_values.proofs.Stores.{forget_declared_spares}
 use Rattle.ceu_tree.specs.World.{is_among}
 use Rattle.std.proofs.lemmas.Bool.{or_cases, false≢true}
-use Rattle.std.proofs.Common.{◌⊎◌, inl, inr, ◌||◌, eq-eqb}
+use Rattle.std.proofs.Common.{◌⊎◌, inl, inr, eq-eqb}
 use Rattle.ceu_living.proofs.Living.{once, once_true}
 
 module _ (codes : List KCode) (b : Body) (x : ℕ) where

@@ -19,7 +19,6 @@ use Rattle.ceu_values.proofs.Grounds.{list_ground, inner_ground, own_node, part_
 use Rattle.ceu_values.proofs.FocusSpares.{decls_ground}
 use Rattle.ceu_living.proofs.Living.{once, often, once_true, once_false, lives, live_branches, live_instances}
 use Rattle.ceu_living.proofs.Trees.{live_frame, live_focus}
-use Rattle.ceu_counters.proofs.Grips.{point}
 use Rattle.ceu_ready.proofs.Grips.{slots_grip, given_grip, grip, grip_each, grip_all, frame_grip, focus_grip}
 use Rattle.ceu_ready.proofs.Places.{CodeRoom, code_room, given_is}
 use Rattle.ceu_counters.proofs.Bodies.{root, inside, calls, cap, cap_inner, cap_halves, cap_call, cap_instance, cap_turn}

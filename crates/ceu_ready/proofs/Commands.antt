@@ -1,5 +1,5 @@
 -- Commands and runs of a proper kernel leave a value to each slot that is needed.
-use Rattle.std.proofs.Common.{◌≡◌, refl, sym, ap, ◌∙◌, subst, ◌≤◌, ◌<◌, ℕ, zero, suc, ◌+◌, ◌-◌, ◌*◌, ℤ, pos, nat_le, Bool, true, false, ◌⊎◌, inl, inr, List, [], ◌∷◌, Option, Some, None, arith}
+use Rattle.std.proofs.Common.{◌≡◌, refl, ap, ◌∙◌, subst, ◌≤◌, ◌<◌, ℕ, zero, suc, ◌+◌, ◌-◌, ◌*◌, ℤ, pos, nat_le, Bool, true, false, ◌⊎◌, inl, inr, List, [], ◌∷◌, Option, Some, None, arith}
 use Rattle.std.proofs.lemmas.Bool.{cases_lt, false≢true}
 use Rattle.ceu_tree.specs.declared.command.Command.{Command}
 use Rattle.ceu_tree.specs.declared.command.Command.TheVariants.{Input, Advance, Idle}

@@ -1,6 +1,6 @@
 -- What a leaf does keeps values, and gives one to each slot that is needed then.
-use Rattle.std.proofs.Common.{◌≡◌, refl, sym, ap, ◌∙◌, subst, ◌≤◌, ℕ, zero, suc, ◌+◌, ℤ, pos, ◌*ℤ◌, ◌+ℤ◌, ◌-ℤ◌, Bool, true, false, not, if◌then◌else◌, ◌==◌, ◌&&◌, ◌||◌, ◌⊎◌, inl, inr, List, [], ◌∷◌, length, Option, Some, None, Result, Ok, Err, arith, eqb-true}
-use Rattle.std.proofs.lemmas.Bool.{and_parts, and_from, or_cases, false≢true}
+use Rattle.std.proofs.Common.{◌≡◌, refl, sym, ap, ◌∙◌, subst, ◌≤◌, ℕ, suc, ◌+◌, ℤ, pos, ◌*ℤ◌, ◌+ℤ◌, ◌-ℤ◌, Bool, true, false, not, if◌then◌else◌, ◌==◌, ◌&&◌, ◌⊎◌, inl, inr, List, [], ◌∷◌, length, Option, Some, None, Result, Ok, Err, arith, eqb-true}
+use Rattle.std.proofs.lemmas.Bool.{and_parts, or_cases, false≢true}
 use Rattle.ceu_base.specs.declared.kinds.Pos.{Pos}
 use Rattle.ceu_base.specs.declared.kinds.Fault.{Fault}
 use Rattle.ceu_base.specs.declared.kinds.Mark.TheVariants as mark
@@ -9,7 +9,6 @@ use Rattle.ceu_tree.specs.declared.kernel.Kernel.{Kernel}
 use Rattle.ceu_tree.specs.declared.kernel.KCode.{KCode}
 use Rattle.ceu_tree.specs.declared.kernel.KDecl.{KDecl}
 use Rattle.ceu_tree.specs.declared.kernel.KExp.{KExp}
-use Rattle.ceu_tree.specs.declared.kernel.KKind.{KKind}
 use Rattle.ceu_tree.specs.declared.kernel.KKind.TheVariants as kind
 use Rattle.ceu_tree.specs.declared.kernel.KLoop.{KLoop}
 use Rattle.ceu_tree.specs.declared.kernel.KLoop.TheVariants as turns
@@ -20,27 +19,26 @@ use Rattle.ceu_tree.specs.declared.kernel.KStmt as kernel
 use Rattle.ceu_tree.specs.declared.kernel.KStmt.{KStmt, out-KStmt}
 use Rattle.ceu_tree.specs.declared.kernel.KStmt.TheOpen.{KStmt-F}
 use Rattle.ceu_tree.specs.Residual.{Body, Program, Awaited, same_body, Act, Begin, Start, Finish, AtEnd, AtHead, Again, Counter, Free, Turns, Upward, Run, WaitInput, WaitTime, WaitEvent, WaitForever, InAsync, no_instance}
-use Rattle.ceu_tree.specs.Focus.{OfBlock, OfCall, Here, In, leaf, body_of}
-use Rattle.ceu_tree.specs.World.{World, Cell, Holds, NotSet, Names, marked, place_of, assign, assign_if, set, set_alias, set_parameters, look}
+use Rattle.ceu_tree.specs.Focus.{OfBlock, Here, In, leaf, body_of}
+use Rattle.ceu_tree.specs.World.{World, Cell, Holds, NotSet, Names, marked, assign_if, set, set_alias, set_parameters, look}
 use Rattle.ceu_tree.specs.Expressions.{and_then, names_living, value_of, value_if, values_of}
 use Rattle.ceu_tree.specs.Leaf.{Layer, Exit, Escape, Break, Continue, Does, Opens, Waits, Passes, Registers, Ends, Heads, Emits, Spawns, Kills, Fails, Done, or_fails, microseconds, clamped, target, target_of, code_at, chosen_part, branches_from, in_branches, opened, looping, loop_reached, called, spawning, killing, started, next_of, rest_of, acted}
 use Rattle.ceu_tree.specs.Leaf as does
 use Rattle.ceu_tree.specs.Around.{Outcome, Past, Leaves}
-use Rattle.ceu_tree.specs.Legal.{before, is_set, called_code}
+use Rattle.ceu_tree.specs.Legal.{before, called_code}
 use Rattle.ceu_tree.specs.Mentions.{is_loc, is_slot, is_set_decl, await_target, body_target, sets}
 use Rattle.ceu_tree.specs.Proper.{Scope, find, is_trail, is_above, on_code, is_pool_of, alias_takes, takes_if, gives, gives_all, stmt_ok, is_proper}
 use Rattle.ceu_legal.specs.Shape.{Part, ABlock, AStatement, pauses, begins, heads, goes_again, starts, finishes, ends, ActFits}
 use Rattle.ceu_legal.proofs.Static.{StmtOk, names_of}
 use Rattle.ceu_legal.proofs.UpFits.{Sound, layer_of}
-use Rattle.ceu_values.specs.Ground.{has, Ground, On}
-use Rattle.ceu_values.specs.Needed.{some_done}
+use Rattle.ceu_values.specs.Ground.{has, Ground}
 use Rattle.ceu_values.specs.Ready.{is_cell, declares}
 use Rattle.ceu_values.proofs.Names.{layer_sets}
 use Rattle.ceu_values.proofs.Positions.{before_first}
-use Rattle.ceu_values.proofs.Stores.{same_is, or_left, or_right, set_keeps, set_has, assign_keeps, assign_if_keeps}
-use Rattle.ceu_values.proofs.UpValues.{awaits, awaits_is, no_await, layer_set}
-use Rattle.ceu_counters.specs.Counters.{is_first, at_loop}
-use Rattle.ceu_ready.specs.Needed.{own_target, block_asks, alias_of, asked, given_needed, past_needed, act_needed, needed, needed_each, needed_all, frame_needed, focus_needed}
+use Rattle.ceu_values.proofs.Stores.{same_is, set_keeps, set_has, assign_keeps, assign_if_keeps}
+use Rattle.ceu_values.proofs.UpValues.{awaits, no_await, layer_set}
+use Rattle.ceu_counters.specs.Counters.{is_first}
+use Rattle.ceu_ready.specs.Needed.{own_target, block_asks, alias_of, asked, given_needed, past_needed, act_needed, needed, needed_each, focus_needed}
 use Rattle.ceu_ready.proofs.Places.{left_of, right_of, loc_of, TargetOk, target_ok, Known, KnownAt, target_own}
 use Rattle.ceu_ready.proofs.Settled.{asked_zero, asked_one, asked_yes}
 use denote.Hole.Carrier

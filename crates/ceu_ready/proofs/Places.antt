@@ -17,12 +17,11 @@ use Rattle.ceu_tree.specs.declared.kernel.KStmt.TheOpen.{KStmt-F}
 use Rattle.ceu_tree.specs.Residual.{Body, Program, Awaited, Spawned, same_body}
 use Rattle.ceu_tree.specs.Focus.{Frame, Focus, Here, In, body_in, body_of}
 use Rattle.ceu_tree.specs.Leaf.{Layer, code_at, target_of}
-use Rattle.ceu_tree.specs.Legal.{is_set, called_code}
+use Rattle.ceu_tree.specs.Legal.{called_code}
 use Rattle.ceu_tree.specs.Mentions.{outer_names_from, is_loc, is_slot, body_target, is_set_decl}
-use Rattle.ceu_tree.specs.Numbering.{counts_from, decl_slots, loop_slots, block_slots, block_nodes, stmt_slots, stmt_nodes, codes_slots, codes_nodes, is_numbered}
-use Rattle.ceu_tree.specs.Typing.{same_ty, holds_all}
-use Rattle.ceu_tree.specs.Proper.{Scope, SlotKind, IsVariable, IsLoopVariable, IsPool, IsAlias, find, declared_seen, pool_slots, pools_seen, variable_ty, has_ty, is_loop_variable, alias_takes, is_pool_of, is_in_code, is_trail, outside_finalizers, looked_up, reads, takes, takes_if, gives, gives_all, on_ty, on_code, is_above, time_ok, port_ty, event_at, event_seen, with_aim, do_aim, stmt_ok, block_ok, body_scope, codes_ok, events_ok, ports_ok, is_proper}
-use Rattle.ceu_legal.specs.Shape.{Part, ABlock, AStatement, AnEnd, block_scope, part_scope, turn_scope, async_scope, code_scope, code_part, program_part, opens_part, FrameFits, around_statement, around_end, around_instance, around_part, around_turn, around_call, around_branch, Around, nothing_around, one_around}
+use Rattle.ceu_tree.specs.Numbering.{counts_from, decl_slots, block_slots, block_nodes, stmt_slots, stmt_nodes, codes_slots, codes_nodes, is_numbered}
+use Rattle.ceu_tree.specs.Proper.{Scope, SlotKind, IsVariable, IsLoopVariable, IsPool, IsAlias, find, declared_seen, pool_slots, pools_seen, variable_ty, has_ty, alias_takes, is_pool_of, is_in_code, is_trail, outside_finalizers, reads, takes, takes_if, gives, gives_all, on_ty, on_code, is_above, time_ok, port_ty, event_at, event_seen, with_aim, do_aim, stmt_ok, block_ok, body_scope, codes_ok, events_ok, ports_ok, is_proper}
+use Rattle.ceu_legal.specs.Shape.{Part, ABlock, AStatement, AnEnd, block_scope, part_scope, turn_scope, async_scope, code_scope, program_part, opens_part, FrameFits, around_statement, around_end, around_instance, around_part, around_turn, around_call, around_branch, Around, nothing_around, one_around}
 use Rattle.ceu_legal.proofs.Static.{BlockOk, StmtOk, names_of, nodes_fine, block_static}
 use Rattle.ceu_values.specs.Ground.{Ground, Numbered, On}
 use Rattle.ceu_values.specs.Ready.{is_cell, declares}
@@ -36,7 +35,7 @@ use Rattle.ceu_values.proofs.UpValues.{awaits, awaits_is}
 use Rattle.ceu_living.proofs.Living.{often, once_true}
 use Rattle.ceu_counters.proofs.Grips.{point, own}
 use Rattle.ceu_ready.specs.Needed.{own_target, alias_of}
-use Rattle.ceu_ready.proofs.Grips.{slots_grip, given_grip, frame_grip, focus_grip, body_point}
+use Rattle.ceu_ready.proofs.Grips.{slots_grip, given_grip, frame_grip, focus_grip}
 use denote.Hole.Carrier
 
 pub left_of : (p q : Bool) → (p && q) ≡ true → p ≡ true

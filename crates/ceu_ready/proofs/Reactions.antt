@@ -1,11 +1,10 @@
 -- Each step of a reaction of a proper kernel leaves a value to each slot that is needed.
-use Rattle.std.proofs.Common.{◌≡◌, refl, sym, ap, ◌∙◌, subst, ◌≤◌, ◌<◌, ℕ, zero, suc, ◌+◌, ◌*◌, Bool, true, false, if◌then◌else◌, ◌==◌, Option, Some, None, arith, eqb-true}
-use Rattle.std.proofs.lemmas.Bool.{false≢true}
+use Rattle.std.proofs.Common.{◌≡◌, ap, ◌≤◌, ℕ, zero, suc, ◌+◌, Bool, true, false, if◌then◌else◌, ◌==◌, Option, Some, None, arith}
 use Rattle.ceu_base.specs.declared.kinds.Pos.{Pos}
 use Rattle.ceu_base.specs.declared.kinds.Fault.{Fault}
 use Rattle.ceu_tree.specs.declared.kernel.Kernel.{Kernel}
 use Rattle.ceu_tree.specs.Residual.{Body, Program, Act, Residual, Run}
-use Rattle.ceu_tree.specs.Focus.{Focus, choose, leaf, body_of, plug}
+use Rattle.ceu_tree.specs.Focus.{Focus, choose, leaf, body_of}
 use Rattle.ceu_tree.specs.World.{World}
 use Rattle.ceu_tree.specs.Wake.{runs_at}
 use Rattle.ceu_tree.specs.Around.{Outcome, Goes, Rests, Raises, Fails, Past, Registers, AtBlockEnd, AtLoopHead, Ends, Leaves}

@@ -1,5 +1,5 @@
 -- The laws on the slots that have a value.
-use Rattle.std.proofs.Common.{◌≡◌, subst, ◌≤◌, ℕ, true, List, arith}
+use Rattle.std.proofs.Common.{◌≡◌, subst, ℕ, true, List, arith}
 use Rattle.ceu_tree.specs.declared.command.Command.{Command}
 use Rattle.ceu_tree.specs.declared.kernel.Kernel.{Kernel}
 use Rattle.ceu_tree.specs.Residual.{Body, Program, Act, Residual}

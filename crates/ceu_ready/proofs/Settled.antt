@@ -1,5 +1,5 @@
 -- Where less than all has hold of a slot, a part of a proper kernel needs it not.
-use Rattle.std.proofs.Common.{◌≡◌, refl, sym, ap, ◌∙◌, subst, ◌≤◌, ◌<◌, ℕ, zero, suc, ◌+◌, Bool, true, false, not, if◌then◌else◌, ◌==◌, ◌&&◌, ◌||◌, ◌⊎◌, inl, inr, List, [], ◌∷◌, ◌++◌, length, Option, Some, None, arith, eqb-true}
+use Rattle.std.proofs.Common.{◌≡◌, refl, ap, subst, ◌≤◌, ℕ, zero, suc, ◌+◌, Bool, true, false, if◌then◌else◌, ◌&&◌, ◌⊎◌, inl, inr, List, [], ◌∷◌, ◌++◌, Option, Some, None, arith}
 use Rattle.std.proofs.lemmas.Bool.{and_parts, and_from, or_cases, false≢true}
 use Rattle.ceu_tree.specs.declared.kernel.Kernel.{Kernel}
 use Rattle.ceu_tree.specs.declared.kernel.KCode.{KCode}
@@ -11,26 +11,26 @@ use Rattle.ceu_tree.specs.declared.kernel.KBlock.{KBlock, out-KBlock}
 use Rattle.ceu_tree.specs.declared.kernel.KStmt.{out-KStmt}
 use Rattle.ceu_tree.specs.declared.kernel.KStmt.TheOpen.{KStmt-F}
 use Rattle.ceu_tree.specs.Residual.{Body, Awaited, Spawned, same_body, Residual, Branches, Instances}
-use Rattle.ceu_tree.specs.Focus.{Frame, OfInstance, OfLoop, OfPar, Focus, Here, In, body_in}
+use Rattle.ceu_tree.specs.Focus.{Frame, OfLoop, OfPar, Focus, Here, In, body_in}
 use Rattle.ceu_tree.specs.Leaf.{code_at}
 use Rattle.ceu_tree.specs.Legal.{before, is_set, called_code}
 use Rattle.ceu_tree.specs.Mentions.{is_slot, body_target}
 use Rattle.ceu_tree.specs.Numbering.{block_slots, block_nodes}
 use Rattle.ceu_tree.specs.Proper.{Scope, find, pool_slots, pools_seen, is_proper}
-use Rattle.ceu_legal.specs.Shape.{Part, ABlock, AStatement, block_scope, part_scope, Fits, to_begin, to_turn, in_list, to_finish, at_input, at_time, at_event, at_forever, at_async, in_part, in_turn, in_call, in_par, EachFits, no_more, an_ended, a_branch, AllFit, none_lives, one_lives, FrameFits, around_statement, around_end, around_instance, around_part, around_turn, around_call, around_branch, Around, nothing_around, one_around}
+use Rattle.ceu_legal.specs.Shape.{Part, AStatement, block_scope, Fits, to_begin, to_turn, in_list, to_finish, at_input, at_time, at_event, at_forever, at_async, in_part, in_turn, in_call, in_par, EachFits, no_more, an_ended, a_branch, AllFit, none_lives, one_lives, FrameFits, around_statement, around_end, around_instance, around_part, around_turn, around_call, around_branch, Around, nothing_around, one_around}
 use Rattle.ceu_legal.proofs.Static.{BlockOk, StmtOk, names_of, code_static, each_fine}
 use Rattle.ceu_legal.proofs.UpFits.{Sound, layer_of, list_sound, part_sound, frame_sound}
 use Rattle.ceu_values.specs.Ground.{Ground, Numbered, On}
 use Rattle.ceu_values.specs.Needed.{some_done, own_variable, turn_needs}
 use Rattle.ceu_values.specs.Ready.{is_cell, declares}
 use Rattle.ceu_values.proofs.Counts.{halves, blocks_slots_all, blocks_nodes_all}
-use Rattle.ceu_values.proofs.Grounds.{list_ground, inner_ground, own_node, part_ground, branch_ground}
+use Rattle.ceu_values.proofs.Grounds.{list_ground, inner_ground, part_ground, branch_ground}
 use Rattle.ceu_values.proofs.Readies.{find_cell}
 use Rattle.ceu_counters.specs.Counters.{counts_in, at_loop}
 use Rattle.ceu_counters.proofs.Grips.{point, own}
 use Rattle.ceu_ready.specs.Needed.{own_target, block_asks, alias_of, asked, given_needed, past_needed, needed, needed_each, needed_all, turn_needed, frame_needed, focus_needed}
 use Rattle.ceu_ready.proofs.Grips.{slots_grip, given_grip, grip, grip_each, grip_all, frame_grip, focus_grip}
-use Rattle.ceu_ready.proofs.Places.{code_room, alias_cell, head_cell, Known, KnownAt, point_is, declared_held, known_more, known_inner, known_list, known_part, known_turn, known_async, known_code, given_is, frame_known}
+use Rattle.ceu_ready.proofs.Places.{code_room, alias_cell, head_cell, Known, KnownAt, point_is, declared_held, known_inner, known_list, known_part, known_turn, known_async, known_code, given_is, frame_known}
 
 pub own_counts : (x : ℕ) (l : KLoop) → own_variable x l ≡ true → counts_in x l ≡ true
 own_counts x (turns.Range i next end open_a y z open_b) h = h

@@ -1,14 +1,13 @@
 -- One step of a trail leaves a value to each slot that is needed.
-use Rattle.std.proofs.Common.{◌≡◌, refl, sym, ap, ◌∙◌, subst, ◌≤◌, ◌<◌, ℕ, zero, suc, ◌+◌, ℤ, pos, Bool, true, false, if◌then◌else◌, ◌==◌, ◌⊎◌, inl, inr, List, ◌∷◌, length, Option, Some, None, arith}
+use Rattle.std.proofs.Common.{◌≡◌, refl, sym, ap, ◌∙◌, subst, ◌≤◌, ◌<◌, ℕ, suc, ◌+◌, ℤ, pos, Bool, true, false, if◌then◌else◌, ◌==◌, ◌⊎◌, inl, inr, List, ◌∷◌, Option, Some, None, arith}
 use Rattle.std.proofs.lemmas.Bool.{cases_lt, false≢true}
 use Rattle.ceu_base.specs.declared.kinds.Fault.TheVariants.{SpawnCount}
 use Rattle.ceu_base.specs.declared.kinds.Mark.TheVariants as mark
 use Rattle.ceu_tree.specs.declared.kernel.Kernel.{Kernel}
 use Rattle.ceu_tree.specs.declared.kernel.KCode.{KCode}
 use Rattle.ceu_tree.specs.declared.kernel.KNode.{KNode}
-use Rattle.ceu_tree.specs.declared.kernel.KStmt.{out-KStmt}
 use Rattle.ceu_tree.specs.Residual.{Body, Spawned as InstanceBody, same_body, Act, Begin, Finish, Seat, Residual, Over, Run}
-use Rattle.ceu_tree.specs.Focus.{Focus, Here, In, plug, graft, leaf, body_of}
+use Rattle.ceu_tree.specs.Focus.{Focus, plug, graft, leaf, body_of}
 use Rattle.ceu_tree.specs.World.{World, NotSet, Names, marked, set_alias, set_parameters}
 use Rattle.ceu_tree.specs.Wake.{by_event}
 use Rattle.ceu_tree.specs.Leaf as does
@@ -25,9 +24,8 @@ use Rattle.ceu_values.specs.Ground.{has, Ground, On}
 use Rattle.ceu_values.specs.Ready.{declares}
 use Rattle.ceu_values.proofs.UpValues.{is_head_outcome}
 use Rattle.ceu_counters.specs.Counters.{is_first}
-use Rattle.ceu_counters.proofs.Grips.{point}
 use Rattle.ceu_counters.proofs.Steps.{is_heads, head_does, not_first, pausing_past}
-use Rattle.ceu_ready.specs.Needed.{asked, given_needed, past_needed, act_needed, needed, focus_needed}
+use Rattle.ceu_ready.specs.Needed.{given_needed, past_needed, act_needed, needed, focus_needed}
 use Rattle.ceu_ready.proofs.Grips.{focus_grip, unseat_less}
 use Rattle.ceu_ready.proofs.Trees.{plugged, grafted, grafted_body, grafted_leaf, woken_kept, by_event_same, seat_leaf, seat_body_of, seated_needed, unseat_needed, unseat_leaf, unseat_body_of}
 use Rattle.ceu_ready.proofs.Places.{KnownAt, around_known}

@@ -1,9 +1,7 @@
 -- The slots that a focus needs, and the tree that it is of.
-use Rattle.std.proofs.Common.{◌≡◌, refl, sym, ap, ◌∙◌, subst, ◌≤◌, ℕ, zero, suc, ◌+◌, ℤ, pos, nat_lt, min, Bool, true, false, if◌then◌else◌, ◌==◌, ◌⊎◌, inl, inr, List, Option, Some, None, arith}
-use Rattle.std.proofs.lemmas.Bool.{false≢true}
+use Rattle.std.proofs.Common.{◌≡◌, refl, ap, ◌∙◌, subst, ◌≤◌, ℕ, zero, suc, ◌+◌, ℤ, pos, nat_lt, min, Bool, true, false, if◌then◌else◌, ◌==◌, ◌⊎◌, inl, inr, List, Option, Some, None, arith}
 use Rattle.ceu_tree.specs.declared.kernel.KCode.{KCode}
 use Rattle.ceu_tree.specs.declared.kernel.KBlock.{KBlock, out-KBlock}
-use Rattle.ceu_tree.specs.declared.kernel.KStmt.{out-KStmt}
 use Rattle.ceu_tree.specs.Residual.{Body, Awaited, Spawned, Act, Begin, Finish, Seat, Residual, Over, Run, WaitInput, WaitTime, WaitEvent, WaitForever, InAsync, Block, Open, Loop, Call, Par, Branches, no_branch, branch, Instances, no_instance, instance}
 use Rattle.ceu_tree.specs.Focus.{Frame, OfBlock, OfInstance, OfOpen, OfLoop, OfCall, OfPar, Focus, Here, In, join, join_instances, fill, plug, graft, leaf, body_in, body_of, has_body}
 use Rattle.ceu_tree.specs.Leaf.{code_at}
@@ -11,7 +9,7 @@ use Rattle.ceu_tree.specs.Step.{size_in, with_instance, seated_if, seat_frame, s
 use Rattle.ceu_tree.specs.Wake.{each_leaf, each_in_branches, each_in_instances, each_in_body, woken, by_event, by_input, later, by_time, Unserved, unserved, new_round}
 use Rattle.ceu_counters.specs.Counters.{is_first, at_loop}
 use Rattle.ceu_counters.proofs.Grips.{unseat_body}
-use Rattle.ceu_ready.specs.Needed.{given_needed, past_needed, act_needed, needed, needed_each, needed_all, turn_needed, frame_needed, focus_needed}
+use Rattle.ceu_ready.specs.Needed.{given_needed, past_needed, needed, needed_each, needed_all, frame_needed, focus_needed}
 
 module _ (codes : List KCode) (b : Body) (x : ℕ) where
   abbrev Needed : Body → Residual → ℕ

@@ -1,23 +1,20 @@
 -- Where each slot that is needed has a value, a turn reads no slot of its own body without one.
-use Rattle.std.proofs.Common.{◌≡◌, refl, sym, ap, ◌∙◌, subst, ◌≤◌, ℕ, suc, ◌+◌, Bool, true, false, not, ◌==◌, ◌&&◌, ◌||◌, List, [], ◌∷◌, arith}
-use Rattle.std.proofs.lemmas.Bool.{and_parts, and_from, false≢true}
-use Rattle.ceu_tree.specs.declared.command.Command.{Command}
+use Rattle.std.proofs.Common.{◌≡◌, refl, sym, ap, ◌∙◌, subst, ◌≤◌, ℕ, Bool, true, false, ◌&&◌, arith}
+use Rattle.std.proofs.lemmas.Bool.{and_from, false≢true}
 use Rattle.ceu_tree.specs.declared.kernel.Kernel.{Kernel}
-use Rattle.ceu_tree.specs.declared.kernel.KCode.{KCode}
-use Rattle.ceu_tree.specs.declared.kernel.KBlock.{KBlock, out-KBlock}
+use Rattle.ceu_tree.specs.declared.kernel.KBlock.{out-KBlock}
 use Rattle.ceu_tree.specs.declared.kernel.KStmt.{out-KStmt}
-use Rattle.ceu_tree.specs.Residual.{Body, Program, Awaited, Spawned, same_body, Act, Begin, Start, Finish, AtEnd, AtHead, Again}
+use Rattle.ceu_tree.specs.Residual.{Body, Program, Awaited, Spawned, Act, Begin, Start, Finish, AtEnd, AtHead, Again}
 use Rattle.ceu_tree.specs.Focus.{Frame, OfBlock, OfInstance, OfOpen, OfLoop, OfCall, OfPar, Focus, Here, In, leaf, body_in, body_of}
 use Rattle.ceu_tree.specs.World.{World}
-use Rattle.ceu_tree.specs.Leaf.{code_at}
 use Rattle.ceu_tree.specs.Legal.{is_set, called_code}
 use Rattle.ceu_tree.specs.Mentions.{body_target}
 use Rattle.ceu_tree.specs.Proper.{is_proper}
-use Rattle.ceu_tree.specs.Run.{Config, Turning, booted, next, steps, done, run}
-use Rattle.ceu_legal.specs.Shape.{Part, program_part, FrameFits, around_statement, around_end, around_instance, around_part, around_turn, around_call, around_branch, Around, nothing_around, one_around, ActFits, starts, TurnFits, ConfigFits}
+use Rattle.ceu_tree.specs.Run.{Turning, done}
+use Rattle.ceu_legal.specs.Shape.{Part, program_part, FrameFits, around_statement, around_end, around_instance, around_part, around_turn, around_call, around_branch, Around, nothing_around, one_around, ActFits, starts, ConfigFits}
 use Rattle.ceu_legal.proofs.UpFits.{Sound, frame_sound}
 use Rattle.ceu_legal.proofs.StepFits.{around_sound}
-use Rattle.ceu_legal.proofs.RunFits.{root_sound, steps_fit, booted_fits, done_fits, run_fits}
+use Rattle.ceu_legal.proofs.RunFits.{root_sound}
 use Rattle.ceu_values.specs.Ground.{has}
 use Rattle.ceu_values.specs.Needed.{some_done, turn_needs}
 use Rattle.ceu_values.specs.Ready.{declares, act_has, Ready}
@@ -26,7 +23,7 @@ use Rattle.ceu_values.proofs.Readies.{ready_list, ready_part, ready_turn, ready_
 use Rattle.ceu_values.proofs.Stores.{same_self, or_left}
 use Rattle.ceu_values.proofs.Evaluated.{started_has}
 use Rattle.ceu_counters.specs.Counters.{is_first, at_loop}
-use Rattle.ceu_ready.specs.Needed.{own_target, block_asks, asked, given_needed, needed_all, turn_needed, frame_needed, focus_needed, Stocked}
+use Rattle.ceu_ready.specs.Needed.{own_target, block_asks, asked, given_needed, turn_needed, frame_needed, focus_needed, Stocked}
 use Rattle.ceu_ready.proofs.Settled.{asked_yes}
 
 module _ (K : Kernel) (proper : is_proper K ≡ true) (w : World) where
@@ -39,7 +36,7 @@ module _ (K : Kernel) (proper : is_proper K ≡ true) (w : World) where
       ready_list K here w turn sc b done s rest ok e
       (λ y p q. own here y
       (let a = own_yes here y (block_asks b done y) (or_left (declares y (out-KBlock b).decls && is_set done y) (own_target y (body_target b) && some_done done) (and_from (declares y (out-KBlock b).decls) (is_set done y) p q)) in
-        let m = ap (λ l. asked K.codes here y here (block_asks b l y)) (before_at b done s rest e) in omega (arith, a, m))) h
+      let m = ap (λ l. asked K.codes here y here (block_asks b l y)) (before_at b done s rest e) in omega (arith, a, m))) h
   frame_ready fr first d c here (around_end z i) ok l own h = tt
   frame_ready (OfInstance b fin front seat back r rest) first d c here (around_instance done k e z i p1 p2 p q) ok l own h =
       ready_code K (Spawned seat.number) w seat.code k

@@ -1,10 +1,9 @@
 -- What the parts around a leaf do with what it comes to leaves a value to each slot that is needed.
-use Rattle.std.proofs.Common.{◌≡◌, refl, sym, ap, ◌∙◌, subst, ◌≤◌, ◌<◌, ℕ, zero, suc, ◌+◌, ℤ, pos, ◌+ℤ◌, int_lt, Bool, true, false, if◌then◌else◌, ◌==◌, ◌&&◌, ◌||◌, ◌⊎◌, inl, inr, List, [], ◌∷◌, ◌++◌, append_assoc, Option, Some, None, arith}
+use Rattle.std.proofs.Common.{◌≡◌, refl, sym, ap, ◌∙◌, subst, ◌≤◌, ◌<◌, ℕ, suc, ◌+◌, ℤ, pos, ◌+ℤ◌, int_lt, Bool, true, false, if◌then◌else◌, ◌==◌, ◌&&◌, ◌||◌, ◌⊎◌, inl, inr, List, [], ◌∷◌, ◌++◌, append_assoc, Option, Some, None, arith}
 use Rattle.std.proofs.lemmas.Bool.{and_parts, and_from, or_cases, cases_lt, false≢true}
 use Rattle.ceu_base.specs.declared.kinds.Fault.TheVariants.{LoopLimit}
 use Rattle.ceu_base.specs.declared.kinds.Mark.TheVariants as mark
 use Rattle.ceu_tree.specs.declared.kernel.Kernel.{Kernel}
-use Rattle.ceu_tree.specs.declared.kernel.KCode.{KCode}
 use Rattle.ceu_tree.specs.declared.kernel.KLoop.{KLoop}
 use Rattle.ceu_tree.specs.declared.kernel.KLoop.TheVariants as turns
 use Rattle.ceu_tree.specs.declared.kernel.Loc.{Loc}
@@ -14,34 +13,34 @@ use Rattle.ceu_tree.specs.declared.kernel.KNode.{KNode}
 use Rattle.ceu_tree.specs.declared.kernel.KBlock.{KBlock, out-KBlock}
 use Rattle.ceu_tree.specs.declared.kernel.KStmt.{out-KStmt}
 use Rattle.ceu_tree.specs.declared.kernel.KStmt.TheOpen.{KStmt-F}
-use Rattle.ceu_tree.specs.Residual.{Body, Awaited, Spawned, same_body, Act, Begin, Again, Counter, Free, Turns, Upward, Residual, Over, Block, Loop, Par, Branches, branch, Instances}
-use Rattle.ceu_tree.specs.Focus.{Frame, OfBlock, OfInstance, OfOpen, OfLoop, OfCall, OfPar, Focus, Here, In, join, join_instances, fill, plug, leaf, body_in, body_of}
+use Rattle.ceu_tree.specs.Residual.{Body, Awaited, Spawned, same_body, Act, Begin, Again, Counter, Free, Turns, Upward, Over, Loop, Par, Branches, branch, Instances}
+use Rattle.ceu_tree.specs.Focus.{Frame, OfBlock, OfInstance, OfOpen, OfLoop, OfCall, OfPar, Focus, Here, In, join, plug, leaf, body_in, body_of}
 use Rattle.ceu_tree.specs.World.{World, Holds, marked, set, assign_if, dead}
 use Rattle.ceu_tree.specs.Abort.{aborted, closed, forget_loop, returned}
 use Rattle.ceu_tree.specs.Leaf.{Layer, Exit, Escape, Break, Continue, target, target_of, next_of, rest_of}
-use Rattle.ceu_tree.specs.Around.{Outcome, Goes, Rests, Raises, Fails, Past, Registers, AtBlockEnd, AtLoopHead, Ends, Leaves, Moved, moved, value_with, body_left, open_left, again, begins_turn, turn_of, next_turn, loop_exit, loop_left, all_over, kind_of, rejoined, through, up, taken, answered}
+use Rattle.ceu_tree.specs.Around.{Outcome, Goes, Rests, Raises, Fails, Past, Registers, AtBlockEnd, AtLoopHead, Ends, Leaves, Moved, moved, value_with, body_left, open_left, begins_turn, turn_of, next_turn, loop_exit, loop_left, all_over, kind_of, rejoined, through, up, taken, answered}
 use Rattle.ceu_tree.specs.Legal.{before, is_set}
 use Rattle.ceu_tree.specs.Mentions.{is_loc, await_target, body_target, sets}
 use Rattle.ceu_tree.specs.Numbering.{block_slots, block_nodes}
-use Rattle.ceu_tree.specs.Proper.{Scope, find, pool_slots, pools_seen, is_in_code, is_proper}
-use Rattle.ceu_legal.specs.Shape.{Part, ABlock, AStatement, block_scope, turn_scope, opens_part, counts, aimed, FrameFits, around_statement, around_end, around_instance, around_part, around_turn, around_call, around_branch, Around, nothing_around, one_around, Comes}
-use Rattle.ceu_legal.proofs.Static.{BlockOk, StmtOk, nodes_fine, names_of, block_static}
+use Rattle.ceu_tree.specs.Proper.{Scope, find, pool_slots, pools_seen, is_proper}
+use Rattle.ceu_legal.specs.Shape.{Part, ABlock, AStatement, block_scope, turn_scope, opens_part, counts, FrameFits, around_statement, around_end, around_instance, around_part, around_turn, around_call, around_branch, Around, nothing_around, one_around, Comes}
+use Rattle.ceu_legal.proofs.Static.{BlockOk, StmtOk, names_of}
 use Rattle.ceu_legal.proofs.UpFits.{Sound, frame_sound, up_fits}
 use Rattle.ceu_legal.proofs.StepFits.{Closed}
 use Rattle.ceu_values.specs.Ground.{has, Ground, Numbered, On}
 use Rattle.ceu_values.specs.Needed.{some_done, own_variable, turn_needs}
 use Rattle.ceu_values.specs.Ready.{is_cell, declares}
 use Rattle.ceu_values.proofs.FocusSpares.{decls_ground}
-use Rattle.ceu_values.proofs.Names.{head_target, body_target_is, layer_sets, target_sets}
+use Rattle.ceu_values.proofs.Names.{head_target, body_target_is, target_sets}
 use Rattle.ceu_values.proofs.Positions.{before_at, set_more, declared_cell}
 use Rattle.ceu_values.proofs.Stores.{or_left, or_right, set_keeps, assign_if_keeps}
-use Rattle.ceu_values.proofs.UpValues.{is_head_outcome, awaits, awaits_is, no_await, opens_no_await, finalizer_sets, layer_set}
+use Rattle.ceu_values.proofs.UpValues.{is_head_outcome, no_await, opens_no_await, finalizer_sets, layer_set}
 use Rattle.ceu_counters.specs.Counters.{is_first, at_loop}
 use Rattle.ceu_counters.proofs.Grips.{point, own}
 use Rattle.ceu_ready.specs.Needed.{own_target, block_asks, asked, act_needed, needed, needed_each, needed_all, turn_needed, frame_needed, focus_needed}
 use Rattle.ceu_ready.proofs.Grips.{slots_grip, grip, grip_each, grip_all, frame_grip, focus_grip, over_branches}
 use Rattle.ceu_ready.proofs.Trees.{joined_instances, over_needed, filled, frame_later}
-use Rattle.ceu_ready.proofs.Places.{loc_of, Taken, TargetOk, target_ok, head_cell, head_ok, own_if, Known, KnownAt, point_is, frame_known}
+use Rattle.ceu_ready.proofs.Places.{head_cell, head_ok, own_if, Known, KnownAt, point_is, frame_known}
 use Rattle.ceu_ready.proofs.Settled.{asked_one, asked_yes, one_of, frame_unneeded, beside_unneeded, own_counts}
 use Rattle.ceu_ready.proofs.Aborts.{body_spared, loop_spared, each_spared, closed_spared, focus_spared, dead_spared}
 use Rattle.ceu_ready.proofs.Leaf.{set_now, OutcomeHas, SetNow, nothing_set, next_unneeded, assigned_set}

@@ -1,5 +1,5 @@
 -- The laws on the slots that have a value in the configurations of a proper kernel.
-use Rattle.std.specs.Prelude.{◌≡◌, ℕ, suc, true, List}
+use Rattle.std.specs.Prelude.{◌≡◌, ℕ, true, List}
 use Rattle.ceu_tree.specs.declared.command.Command.{Command}
 use Rattle.ceu_tree.specs.declared.kernel.Kernel.{Kernel}
 use Rattle.ceu_tree.specs.Residual.{Program, Act, Residual}

@@ -1,5 +1,5 @@
 -- In the words of legality: each declaration of an open block that a statement before the one where the block stands sets has a value, and each parameter.
-use Rattle.std.specs.Prelude.{ℕ, Bool, true, not, ◌&&◌, ◌||◌, List, [], ◌∷◌, Option, Some, None}
+use Rattle.std.specs.Prelude.{Bool, true, not, ◌&&◌, ◌||◌, List, [], ◌∷◌, Option, Some, None}
 use Rattle.ceu_tree.specs.declared.kernel.KCode.{KCode}
 use Rattle.ceu_tree.specs.declared.kernel.KDecl.{KDecl}
 use Rattle.ceu_tree.specs.declared.kernel.KNode.{KNode}

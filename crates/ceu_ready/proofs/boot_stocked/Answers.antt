@@ -1,4 +1,3 @@
-use Rattle.std.proofs.lemmas.Bool.{false≢true}
 use Rattle.std.proofs.Common.{arith}
 use Rattle.ceu_ready.specs.Needed.{needed}
 use Rattle.ceu_ready.proofs.boot_stocked.Goals as goal
