@@ -12,3 +12,5 @@ pub mod Commands
 pub mod Turns
 pub mod Slots
 pub mod Runs
+pub mod Namings
+pub mod Outer

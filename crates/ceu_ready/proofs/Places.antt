@@ -130,7 +130,7 @@ module _ (K : Kernel) (proper : is_proper K ≡ true) where
   do_taken sc None h = tt
   do_taken sc (Some l) h = record { ty = l.ty; takes_it = h }
 
-  stmt_taken : (sc : Scope) (n : ℕ) (st : KStmt) → stmt_ok K (names_of K) sc n st ≡ true → TargetOk sc (loc_of (out-KStmt st))
+  pub stmt_taken : (sc : Scope) (n : ℕ) (st : KStmt) → stmt_ok K (names_of K) sc n st ≡ true → TargetOk sc (loc_of (out-KStmt st))
   unfolding stmt_ok out-KStmt Carrier.out
   stmt_taken sc n (kernel.Assign l e) h = record { ty = l.ty; takes_it = left_of (takes K sc l.ty l) (gives K sc l.ty e) h }
   stmt_taken sc n (kernel.AwaitIn k t) h = on_ty_taken sc (port_ty K k K.inputs) t (right_of (is_trail sc.place) _ h)

@@ -3,7 +3,19 @@
 //! In each configuration of a run of a proper kernel, with code, pools and instances, each slot of an open body that needs a value has one.
 #![tactic(auto)]
 
-ghost use Rattle.ceu_ready.specs.Laws.{BootReads, BootStocked, CommandReads, CommandStocked, ReactionStocked, RunSetLegal, RunStocked, StepStocked, TurnReads};
+ghost use Rattle.ceu_ready.specs.Laws.{
+  BootReads,
+  BootStocked,
+  CodeOuterSet,
+  CommandReads,
+  CommandStocked,
+  OuterReads,
+  ReactionStocked,
+  RunSetLegal,
+  RunStocked,
+  StepStocked,
+  TurnReads,
+};
 
 /// At the start no slot needs a value.
 pub fn boot_stocked()
@@ -48,4 +60,15 @@ pub fn command_reads()
 /// Where a run waits, each declaration of an open block that is set there has a value, and each parameter, as a legal configuration has it.
 pub fn run_set_legal()
     ensures { RunSetLegal }
+{}
+
+/// Where code is awaited or spawned, the statements before the one where the program's block stands set each of the program's variables that the code names
+/// by `outer`, itself or by other code, if so it is for the code of each instance that lives.
+pub fn code_outer_set()
+    ensures { CodeOuterSet }
+{}
+
+/// So a statement that starts names by `outer` none of the program's variables that has no value.
+pub fn outer_reads()
+    ensures { OuterReads }
 {}
