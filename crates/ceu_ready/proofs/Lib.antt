@@ -11,8 +11,8 @@ pub mod Reactions
 pub mod Commands
 pub mod Turns
 pub mod Slots
-pub mod Runs
 pub mod Namings
 pub mod Outer
 pub mod OuterSteps
 pub mod OuterRuns
+pub mod Runs

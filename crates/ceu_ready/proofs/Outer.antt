@@ -1,10 +1,8 @@
 -- Where code is awaited or spawned, each of the program's variables that it names is set.
-use Rattle.std.proofs.Common.{◌≡◌, refl, sym, ap, ◌∙◌, subst, ◌≤◌, ◌<◌, ℕ, zero, suc, ◌+◌, nat_lt, Bool, true, false, not, if◌then◌else◌, ◌==◌, ◌&&◌, ◌||◌, ◌⊎◌, inl, inr, List, [], ◌∷◌, ◌++◌, Option, Some, None, arith, eqb-true, eq-eqb}
+use Rattle.std.proofs.Common.{◌≡◌, refl, sym, ap, ◌∙◌, subst, ◌≤◌, ℕ, suc, ◌+◌, Bool, true, false, not, if◌then◌else◌, ◌==◌, ◌&&◌, ◌||◌, ◌⊎◌, inl, inr, List, [], ◌∷◌, ◌++◌, Option, Some, None, arith, eqb-true, eq-eqb}
 use Rattle.std.specs.List.{list_all}
 use Rattle.std.proofs.lemmas.Bool.{and_parts, and_from, or_cases, ltb-true, false≢true}
-use Rattle.ceu_base.specs.declared.kinds.Ty.TheVariants as ty
 use Rattle.ceu_tree.specs.declared.kernel.Kernel.{Kernel}
-use Rattle.ceu_tree.specs.declared.kernel.KCode.{KCode}
 use Rattle.ceu_tree.specs.declared.kernel.KDecl.{KDecl}
 use Rattle.ceu_tree.specs.declared.kernel.KKind.{KKind}
 use Rattle.ceu_tree.specs.declared.kernel.KKind.TheVariants as kind
@@ -17,14 +15,14 @@ use Rattle.ceu_tree.specs.declared.kernel.KStmt as kernel
 use Rattle.ceu_tree.specs.declared.kernel.KStmt.{KStmt, out-KStmt}
 use Rattle.ceu_tree.specs.declared.kernel.KStmt.TheOpen.{KStmt-F}
 use Rattle.ceu_tree.specs.Residual.{Body, Program, Act, Begin, Start, Finish, AtEnd, AtHead, Again, Residual, Over}
-use Rattle.ceu_tree.specs.Focus.{Frame, OfBlock, OfInstance, Focus, Here, In, plug, fill, leaf, body_in, body_of}
+use Rattle.ceu_tree.specs.Focus.{Frame, OfInstance, Focus, Here, In, plug, fill, leaf, body_in}
 use Rattle.ceu_tree.specs.World.{World}
-use Rattle.ceu_tree.specs.Leaf.{Layer, code_at}
+use Rattle.ceu_tree.specs.Leaf.{Layer}
 use Rattle.ceu_tree.specs.Legal.{Seated, before, is_set, is_program_variable, program_done, outer_set, seats}
-use Rattle.ceu_tree.specs.Mentions.{named_by, outer_names_from, count_of, is_loc, await_target, first_target, body_target, sets, is_set_decl, maybe_loc, maybe_own, loc_names, own_names, exp_names, exps_names, stmt_names, block_names, list_names}
-use Rattle.ceu_tree.specs.Proper.{Scope, LoopAim, is_in_code, is_trail, is_above, outside_finalizers, with_decls, with_aim, with_turns, do_aim, decl_ok, loop_ok, on_code, gives_all, takes_if, is_pool_of, alias_takes, find, stmt_ok, block_ok, nodes_ok, is_proper}
-use Rattle.ceu_legal.specs.Shape.{Part, ABlock, AStatement, AnEnd, block_scope, program_part, part_scope, turn_scope, opens_part, FrameFits, around_statement, around_end, around_instance, around_part, around_turn, around_call, around_branch, Around, nothing_around, one_around, ActFits, starts, TurnFits}
-use Rattle.ceu_legal.proofs.Static.{BlockOk, StmtOk, names_of}
+use Rattle.ceu_tree.specs.Mentions.{named_by, outer_names_from, count_of, is_loc, await_target, first_target, body_target, sets, is_set_decl, maybe_loc, loc_names, exp_names, exps_names, stmt_names, block_names, list_names}
+use Rattle.ceu_tree.specs.Proper.{Scope, LoopAim, is_in_code, is_trail, is_above, with_decls, with_aim, is_pool_of, alias_takes, find, stmt_ok, block_ok, nodes_ok, is_proper}
+use Rattle.ceu_legal.specs.Shape.{Part, ABlock, AStatement, AnEnd, block_scope, program_part, part_scope, turn_scope, FrameFits, around_statement, around_end, around_instance, around_part, around_turn, around_call, around_branch, Around, nothing_around, one_around, ActFits, starts, TurnFits}
+use Rattle.ceu_legal.proofs.Static.{BlockOk, names_of}
 use Rattle.ceu_legal.proofs.UpFits.{Sound, frame_sound, list_sound}
 use Rattle.ceu_legal.proofs.RunFits.{root_sound}
 use Rattle.ceu_legal.proofs.StepFits.{around_sound}
@@ -39,8 +37,8 @@ use Rattle.ceu_counters.specs.Counters.{is_first, at_loop}
 use Rattle.ceu_ready.specs.Needed.{own_target, block_asks, asked, frame_needed, focus_needed, Stocked}
 use Rattle.ceu_tree.specs.Run.{Turning}
 use Rattle.ceu_ready.specs.Outer.{code_set, layer_code, act_code}
-use Rattle.ceu_ready.proofs.Places.{left_of, right_of, TargetOk, stmt_taken, head_ok, own_if}
-use Rattle.ceu_ready.proofs.Namings.{in_block, in_opened, in_loop, in_branches, in_awaited, in_spawned, maybe_loc_less, exp_less, exps_less, stmt_less, block_less, list_less, table, code_names, table_named}
+use Rattle.ceu_ready.proofs.Places.{left_of, right_of, TargetOk, stmt_taken, own_if}
+use Rattle.ceu_ready.proofs.Namings.{in_block, in_opened, in_loop, in_branches, in_awaited, in_spawned, exp_less, exps_less, stmt_less, block_less, list_less, table, code_names, table_named}
 use Rattle.ceu_ready.proofs.Settled.{asked_yes}
 use Rattle.ceu_values.specs.Needed.{some_done}
 use denote.Hole.Carrier

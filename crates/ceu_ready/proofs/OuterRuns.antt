@@ -18,16 +18,16 @@ use Rattle.ceu_tree.specs.Around.{Outcome, Goes, Rests, Raises, Fails, Past, Reg
 use Rattle.ceu_tree.specs.Step.{stepped}
 use Rattle.ceu_tree.specs.Legal.{Seated, is_set, program_done, outer_set, seats}
 use Rattle.ceu_tree.specs.Proper.{Scope, is_proper}
-use Rattle.ceu_tree.specs.Run.{Config, Turning, Between, Waiting, Ended, Faulted, config_of, unless_failed, level_closed, chosen_at, next, steps, booted, reacts, input, advance, Served, Unfinished, Turned, Done, Failed, serve_first, after_serving, served, idle_turn, idle_turns, done, all_done, run}
+use Rattle.ceu_tree.specs.Run.{Config, Turning, Between, Waiting, Ended, Faulted, config_of, unless_failed, chosen_at, next, steps, booted, reacts, input, advance, Served, Unfinished, Turned, Done, Failed, serve_first, after_serving, served, idle_turn, idle_turns, done, all_done, run}
 use Rattle.ceu_laws.proofs.FocusBalance.{FoundIn, choose_found}
-use Rattle.ceu_legal.specs.Shape.{Part, AStatement, program_part, pauses, Fits, to_finish, around_statement, around_end, around_instance, Around, nothing_around, one_around, TurnFits, ConfigFits}
+use Rattle.ceu_legal.specs.Shape.{Part, AStatement, program_part, pauses, Fits, to_finish, around_statement, around_end, around_instance, Around, nothing_around, one_around, ConfigFits}
 use Rattle.ceu_legal.proofs.Fits.{around_raised, plug_fits}
 use Rattle.ceu_legal.proofs.Leaves.{leaves_fit, by_input_fits, by_time_fits, later_fits, round_fits}
 use Rattle.ceu_legal.proofs.Choice.{ChoiceFits, choice_fits}
 use Rattle.ceu_legal.proofs.RunFits.{next_fits, steps_fit, booted_fits, async_leaf, idle_turn_fits, done_fits}
 use Rattle.ceu_held.proofs.Seats.{Calm, each_seat, plug_seats, unplug_seats, leaves_seats}
 use Rattle.ceu_ready.specs.Outer.{OuterSet, OuterStands}
-use Rattle.ceu_ready.proofs.OuterSteps.{Grows, moves_to, same_top, leaves_top, OutOuter, stepped_outer}
+use Rattle.ceu_ready.proofs.OuterSteps.{moves_to, same_top, leaves_top, OutOuter, stepped_outer}
 
 -- ---- leaves that become others
 

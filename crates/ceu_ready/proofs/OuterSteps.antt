@@ -1,5 +1,5 @@
 -- A step keeps the program's variables that the code of each instance names set.
-use Rattle.std.proofs.Common.{◌≡◌, refl, sym, ap, ◌∙◌, subst, ℕ, zero, suc, ◌+◌, ℤ, pos, Bool, true, false, not, if◌then◌else◌, ◌==◌, ◌&&◌, ◌||◌, ◌⊎◌, inl, inr, List, [], ◌∷◌, ◌++◌, append_assoc, Option, Some, None, Result, Ok, Err, arith}
+use Rattle.std.proofs.Common.{◌≡◌, refl, sym, ◌∙◌, subst, ℕ, suc, ◌+◌, ℤ, pos, Bool, true, false, not, if◌then◌else◌, ◌==◌, ◌||◌, ◌⊎◌, inl, inr, List, [], ◌∷◌, ◌++◌, append_assoc, Option, Some, None, Result, Ok, Err}
 use Rattle.std.specs.List.{list_all}
 use Rattle.std.proofs.lemmas.Bool.{and_parts, and_from, or_cases, false≢true}
 use Rattle.ceu_base.specs.declared.kinds.Mark.TheVariants as mark
@@ -23,13 +23,13 @@ use Rattle.ceu_tree.specs.Wake.{each_leaf, each_in_body, woken, by_event}
 use Rattle.ceu_tree.specs.Leaf as does
 use Rattle.ceu_tree.specs.Leaf.{Does, acted, code_at}
 use Rattle.ceu_tree.specs.Around.{Outcome, Goes, Rests, Raises, Fails, Past, Registers, AtBlockEnd, AtLoopHead, Ends, Leaves, Moved, moved, body_left, through, up, taken, answered}
-use Rattle.ceu_tree.specs.Step.{event_code, size_in, free_place, seated, spawned_at, unseat, killed, does_in, stepped}
+use Rattle.ceu_tree.specs.Step.{event_code, free_place, seated, spawned_at, unseat, killed, does_in, stepped}
 use Rattle.ceu_tree.specs.Legal.{Seated, before, is_set, is_program_variable, program_done, outer_set, seats}
 use Rattle.ceu_tree.specs.Mentions.{sets, named_by, outer_names_from}
 use Rattle.ceu_tree.specs.Proper.{is_proper}
 use Rattle.ceu_legal.specs.Shape.{Part, program_part, FrameFits, around_statement, around_end, around_instance, Around, nothing_around, one_around, TurnFits, Comes}
 use Rattle.ceu_legal.proofs.UpFits.{frame_sound, up_fits}
-use Rattle.ceu_legal.proofs.LeafFits.{Pausing, DoesFit, acted_fits}
+use Rattle.ceu_legal.proofs.LeafFits.{DoesFit, acted_fits}
 use Rattle.ceu_legal.proofs.StepFits.{around_sound, unseated_around}
 use Rattle.ceu_legal.proofs.RunFits.{root_sound}
 use Rattle.ceu_values.proofs.Positions.{before_at}

@@ -21,6 +21,16 @@ use Rattle.ceu_values.specs.Ready.{act_has}
 use Rattle.ceu_living.proofs.Commands.{run_counts}
 use Rattle.ceu_ready.proofs.Reactions.{OneStocked, next_stocked, steps_stocked}
 use Rattle.ceu_ready.proofs.Commands.{done_stands, run_stands}
+use Rattle.std.proofs.Common.{◌≤◌, false, []}
+use Rattle.ceu_tree.specs.declared.kernel.KNode.{KNode}
+use Rattle.ceu_tree.specs.declared.kernel.KBlock.{out-KBlock}
+use Rattle.ceu_tree.specs.Residual.{Start}
+use Rattle.ceu_tree.specs.Legal.{is_program_variable}
+use Rattle.ceu_tree.specs.Mentions.{count_of, stmt_names}
+use Rattle.ceu_values.specs.Ground.{has}
+use Rattle.ceu_ready.specs.Outer.{OuterStands}
+use Rattle.ceu_ready.proofs.Outer.{outer_reads}
+use Rattle.ceu_ready.proofs.OuterRuns.{steps_outer, done_outer, booted_outer, run_outer}
 
 every : (K : Kernel) (c : Config) → ((b : Body) (x : ℕ) → OneStocked K b x c) → Stocked K c
 every K (Turning n f w) h = λ b x. h b x
@@ -65,3 +75,18 @@ module _ (K : Kernel) (proper : is_proper K ≡ true) where
 
   pub run_set : (n : ℕ) (ys : List Command) (r : Residual) (w : World) → run K n ys ≡ Waiting r w → slots_set K.codes w r Program ≡ true
   run_set n ys r w e = tree_set K w r Program (subst (Stocked K) e (run_all n ys))
+
+  -- ---- the program's variables
+
+  pub boot_outer_reads : (k n slot : ℕ) (f : Focus Act) (s : KNode) (w : World) → steps K k (booted K) ≡ Turning n f w → leaf f ≡ Start s → is_program_variable slot (out-KBlock K.body).decls ≡ true → 1 ≤ count_of slot (stmt_names false [] s.stmt) → has Program slot w ≡ true
+  boot_outer_reads k n slot f s w e q v m =
+      outer_reads K proper n f w s slot (subst (ConfigFits K) e (steps_fit K proper k (booted K) (booted_fits K proper)))
+      (subst (Stocked K) e (every K (steps K k (booted K)) (λ b x. steps_stocked K proper b x k (booted K) (booted_fits K proper) (booted_counts K proper) (booted_one b x))))
+      (subst (OuterStands K) e (steps_outer K proper k (booted K) (booted_fits K proper) (booted_outer K proper))) q v m
+
+  pub command_outer_reads : (m k n slot : ℕ) (xs : List Command) (y : Command) (f : Focus Act) (s : KNode) (w : World) → done K k y (run K m xs) ≡ Turning n f w → leaf f ≡ Start s → is_program_variable slot (out-KBlock K.body).decls ≡ true
+      → 1 ≤ count_of slot (stmt_names false [] s.stmt) → has Program slot w ≡ true
+  command_outer_reads m k n slot xs y f s w e q v l =
+      outer_reads K proper n f w s slot (subst (ConfigFits K) e (done_fits K proper k y (run K m xs) (run_fits K proper m xs)))
+      (subst (Stocked K) e (every K (done K k y (run K m xs)) (λ b x. done_stands K proper b x k y (run K m xs) (run_fits K proper m xs) (run_counts K proper m xs) (one K (run K m xs) b x (run_all m xs)))))
+      (subst (OuterStands K) e (done_outer K proper k y (run K m xs) (run_fits K proper m xs) (run_outer K proper m xs))) q v l

@@ -76,3 +76,14 @@ RunOuter = (K : Kernel) (n : ℕ) (xs : List Command) → Proper K → OuterStan
 -- in the words of legality: where a run waits, and an instance lives, the program's variables that its code names are set
 abbrev pub RunOuterLegal : Type 0
 RunOuterLegal = (K : Kernel) (n : ℕ) (xs : List Command) (r : Residual) (w : World) → Proper K → run K n xs ≡ Waiting r w → list_all (outer_set K r) (seats r Program) ≡ true
+
+-- So in no step of a run a statement that starts names one of them by `outer` without a value: in the reaction of boot, and in those of a command.
+abbrev pub BootOuterReads : Type 0
+BootOuterReads =
+    (K : Kernel) (k n slot : ℕ) (f : Focus Act) (s : KNode) (w : World) → Proper K → steps K k (booted K) ≡ Turning n f w → leaf f ≡ Start s → is_program_variable slot (out-KBlock K.body).decls ≡ true
+    → 1 ≤ count_of slot (stmt_names false [] s.stmt) → has Program slot w ≡ true
+
+abbrev pub CommandOuterReads : Type 0
+CommandOuterReads =
+    (K : Kernel) (m k n slot : ℕ) (xs : List Command) (x : Command) (f : Focus Act) (s : KNode) (w : World) → Proper K → done K k x (run K m xs) ≡ Turning n f w → leaf f ≡ Start s
+    → is_program_variable slot (out-KBlock K.body).decls ≡ true → 1 ≤ count_of slot (stmt_names false [] s.stmt) → has Program slot w ≡ true

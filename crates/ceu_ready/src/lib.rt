@@ -1,12 +1,15 @@
 //! Laws of the reference semantics on the slots that have a value, each the contract of a function with an empty body.
 //!
-//! In each configuration of a run of a proper kernel, with code, pools and instances, each slot of an open body that needs a value has one.
+//! In each configuration of a run of a proper kernel, with code, pools and instances, each slot of an open body that needs a value has one, and the
+//! program's variables that the code of an instance names are set.
 #![tactic(auto)]
 
 ghost use Rattle.ceu_ready.specs.Laws.{
+  BootOuterReads,
   BootReads,
   BootStocked,
   CodeOuterSet,
+  CommandOuterReads,
   CommandReads,
   CommandStocked,
   OuterReads,
@@ -71,7 +74,7 @@ pub fn code_outer_set()
     ensures { CodeOuterSet }
 {}
 
-/// So a statement that starts names by `outer` none of the program's variables that has no value.
+/// So a statement that starts names by `outer` none of the program's variables that has no value, if so it is for each instance that lives.
 pub fn outer_reads()
     ensures { OuterReads }
 {}
@@ -89,4 +92,14 @@ pub fn run_outer()
 /// Where a run waits, the program's variables that the code of an instance names are set, as a legal configuration has it.
 pub fn run_outer_legal()
     ensures { RunOuterLegal }
+{}
+
+/// So a statement that starts in the reaction of boot names by `outer` none of the program's variables that has no value,
+pub fn boot_outer_reads()
+    ensures { BootOuterReads }
+{}
+
+/// nor does one in the reactions of a command after a run.
+pub fn command_outer_reads()
+    ensures { CommandOuterReads }
 {}
