@@ -238,7 +238,6 @@ module _ (K : Kernel) (proper : is_proper K ≡ true) (n : ℕ) where
       go true = λ x h. h
       go false = λ x h. h
   woken_grows (Some d) c (In (OfInstance b fin front seat back q rest) f) e r (one_around (around_instance done k z i fit u v p g) more) = λ x h. h
-
   woken_grows (Some d) c (In (OfOpen s) f) e r a = λ x h. absurd (false≢true h)
   woken_grows (Some d) c (In (OfLoop s j) f) e r a = λ x h. absurd (false≢true h)
   woken_grows (Some d) c (In (OfCall s) f) e r a = λ x h. absurd (false≢true h)
