@@ -25,9 +25,6 @@ use Rattle.std.proofs.Common.{◌⊎◌, inl, inr, eq-eqb}
 use Rattle.ceu_living.proofs.Living.{once, once_true}
 
 module _ (codes : List KCode) (b : Body) (x : ℕ) where
-  abbrev Has : World → Type 0
-  Has w = has b x w ≡ true
-
   among_often : (y : ℕ) (xs : List ℕ) → is_among y xs ≡ true → y ≡ x → 1 ≤ often x xs
   among_often y [] h e = absurd (false≢true h)
   among_often y (z ∷ zs) h e = go (or_cases (y == z) (is_among y zs) h) (λ k. among_often y zs k e)

@@ -78,12 +78,6 @@ module _ (K : Kernel) (proper : is_proper K ≡ true) (b : Body) (x : ℕ) (n : 
             keeps : has b x w ≡ true → has b x u ≡ true
             keeps y = parameters_keep b x (InstanceBody number) c.params vs v (alias_keeps b x body alias (Names number) (record w { given = number; living = number ∷ w.living }) y)
 
-            pause : Residual
-            pause = Run n (Finish s (pos 0))
-
-            seats : Focus Act
-            seats = seated seat (Run (n + 1) (Begin c.body)) f
-
             split : needed K.codes b x root (plug (seated seat (Run (n + 1) (Begin c.body)) f) (Run n (Finish s (pos 0)))) ≡ focus_needed K.codes b x is_first root (seated seat (Run (n + 1) (Begin c.body)) f) + past_needed K.codes b x (body_of f root) s
             split =
                 plugged K.codes b x is_first root (seated seat (Run (n + 1) (Begin c.body)) f) (Run n (Finish s (pos 0))) (ap is_first (seat_leaf K.codes b x seat (Run (n + 1) (Begin c.body)) f) ∙ first) ∙

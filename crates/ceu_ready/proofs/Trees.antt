@@ -12,15 +12,6 @@ use Rattle.ceu_counters.proofs.Grips.{unseat_body}
 use Rattle.ceu_ready.specs.Needed.{given_needed, past_needed, needed, needed_each, needed_all, frame_needed, focus_needed}
 
 module _ (codes : List KCode) (b : Body) (x : ℕ) where
-  abbrev Needed : Body → Residual → ℕ
-  Needed = needed codes b x
-
-  abbrev Each : Body → Branches → ℕ
-  Each = needed_each codes b x
-
-  abbrev All' : Instances → ℕ
-  All' = needed_all codes b x
-
   joined : (here : Body) (front back : Branches) → needed_each codes b x here (join front back) ≡ needed_each codes b x here front + needed_each codes b x here back
   unfolding needed
   joined here no_branch back = omega arith
@@ -165,9 +156,6 @@ module _ (codes : List KCode) (b : Body) (x : ℕ) where
   unserved_needed here r y e = absurd (cc)
 
   -- ---- a new instance, and one that is taken out
-
-  abbrev New : Seat → ℕ
-  New seat = given_needed codes b x (Spawned seat.number) (code_at seat.code codes)
 
   with_needed : (seat : Seat) (level : ℕ) (c : KBlock) (all : Instances) → needed_all codes b x (with_instance seat (Run level (Begin c)) all) ≡ given_needed codes b x (Spawned seat.number) (code_at seat.code codes) + needed_all codes b x all
   unfolding needed
