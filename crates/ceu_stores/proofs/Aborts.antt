@@ -66,7 +66,7 @@ module _ (K : Kernel) (proper : is_proper K ≡ true) where
 
   -- ---- a frame, and all that are around a leaf
 
-  frame_gone : {t : ℕ} {fr : Frame} {d e : Part} → FrameFits K t fr d e → Sound K proper d → Known K proper d → (r : Residual) → ((body : Body) → Gone (aborted r body))
+  pub frame_gone : {t : ℕ} {fr : Frame} {d e : Part} → FrameFits K t fr d e → Sound K proper d → Known K proper d → (r : Residual) → ((body : Body) → Gone (aborted r body))
       → (body : Body) → Gone (aborted (fill fr r) body)
   unfolding aborted
   frame_gone (around_statement {turn = turn} {sc = sc} {b = b} {fin = fin} {rest = rest} {all = all} {s = s} done e f fit) h k r q body w x =

@@ -1,4 +1,5 @@
 pub mod Trees
 pub mod Values
 pub mod Aborts
+pub mod Hands
 pub mod Runs

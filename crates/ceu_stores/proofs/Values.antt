@@ -14,7 +14,8 @@ use Rattle.ceu_tree.specs.declared.kernel.Loc.{Loc}
 use Rattle.ceu_tree.specs.Residual.{Body}
 use Rattle.ceu_tree.specs.World.{Cell, Holds, NotSet, Names, World, set, set_alias, set_parameters, assign_if}
 use Rattle.ceu_tree.specs.Expressions.{Answer, and_then, value_of, values_of}
-use Rattle.ceu_tree.specs.Proper.{SlotKind, IsVariable, IsLoopVariable, IsPool, IsAlias, Scope, slot_kind, reads, is_proper}
+use Rattle.ceu_tree.specs.Proper.{SlotKind, IsVariable, IsLoopVariable, IsPool, IsAlias, Scope, slot_kind, is_proper}
+use Rattle.ceu_legal.proofs.Static.{names_of}
 use Rattle.ceu_results.specs.Results.{IsResult}
 use Rattle.ceu_held.specs.Declared.{decl_rows, rows, kind_at}
 use Rattle.ceu_held.specs.Typed.{cell_typed, arguments_typed}
@@ -22,6 +23,7 @@ use Rattle.ceu_held.proofs.Slots.{once}
 use Rattle.ceu_held.proofs.Values.{lie_put}
 use Rattle.ceu_held.proofs.Rows.{Incl, kind_of_row}
 use Rattle.ceu_held.proofs.Known.{row, KnownSeen}
+use Rattle.ceu_held.proofs.Writes.{target_takes}
 use Rattle.ceu_held.proofs.Typing.{typed_count, AllTyped, zero_value, assign_typed}
 use Rattle.ceu_stores.specs.Ready.{takes_value}
 
@@ -76,10 +78,10 @@ module _ (K : Kernel) (proper : is_proper K ≡ true) where
       params_typed ps body ds vs (set body d.slot (Holds v) w) (λ r m. i r (inr m)) h.1
       (put_typed body d.slot (Holds v) w (ap (λ o. cell_typed o (Holds v)) e ∙ kind_typed ps d.kind v h.0) x)
 
-  pub targets_typed : (sc : Scope) (o : Option Loc) (v : ℤ) (body : Body) (w : World) → KnownSeen K proper sc.seen
-      → ((l : Loc) → o ≡ Some l → reads K sc l ≡ true) → takes_value o v → AllTyped K proper w → AllTyped K proper (assign_if body o v w)
+  pub targets_typed : (sc : Scope) (o : Option Loc) (v : ℤ) (body : Body) (w : World) → KnownSeen K proper sc.seen → target_takes K (names_of K) sc o
+      → takes_value o v → AllTyped K proper w → AllTyped K proper (assign_if body o v w)
   targets_typed sc None v body w k r h x = x
-  targets_typed sc (Some l) v body w k r h x = assign_typed K proper sc l v body w k (r l refl) h x
+  targets_typed sc (Some l) v body w k r h x = assign_typed K proper sc l v body w k r h x
 
   ok_same : (xs ys : List ℤ) → (let a : Result (List ℤ) (Fault × Pos) = Ok xs in a ≡ Ok ys) → xs ≡ ys
   ok_same xs ys e = ap (λ o. elim o [ Ok zs ↦ zs | Err z ↦ xs ]) e
