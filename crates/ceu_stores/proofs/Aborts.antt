@@ -6,7 +6,7 @@ use Rattle.ceu_tree.specs.declared.kernel.KNode.{KNode}
 use Rattle.ceu_tree.specs.declared.kernel.KBlock.{KBlock, out-KBlock}
 use Rattle.ceu_tree.specs.declared.kernel.KStmt.{out-KStmt}
 use Rattle.ceu_tree.specs.declared.kernel.KStmt.TheOpen.{KStmt-F}
-use Rattle.ceu_tree.specs.Residual.{Body, Awaited, Spawned, Act, AtEnd, Seat, Residual, Branches, branch, Instances, instance}
+use Rattle.ceu_tree.specs.Residual.{Body, Awaited, Spawned, Act, AtEnd, Seat, Residual, Over, Branches, branch, Instances, instance}
 use Rattle.ceu_tree.specs.Focus.{Frame, OfBlock, OfInstance, OfOpen, OfLoop, OfCall, OfPar, Focus, Here, In, join, join_instances, fill, plug, body_in}
 use Rattle.ceu_tree.specs.World.{World, forget_declared}
 use Rattle.ceu_tree.specs.Abort.{finalized, aborted, branches_aborted, instances_aborted, closed}
@@ -23,6 +23,10 @@ use Rattle.ceu_held.proofs.Typing.{AllTyped, dead_typed, forget_body_typed, forg
 module _ (K : Kernel) (proper : is_proper K ≡ true) where
   abbrev pub Gone : (World → World) → Type 0
   Gone f = (w : World) → AllTyped K proper w → AllTyped K proper (f w)
+
+  pub over_gone : (body : Body) → Gone (aborted Over body)
+  unfolding aborted
+  over_gone body w x = x
 
   -- ---- blocks
 

@@ -39,9 +39,9 @@ takes_from o t = (v : ℤ) → IsValue t v → takes_value o v
 module _ (K : Kernel) where
   -- what the statement's target takes
   abbrev pub hands : Layer → Type 0
-  hands (KStmt-F.AwaitIn k t) = (u : Ty) → port_ty K k K.inputs ≡ Some u → takes_from t u
+  hands (KStmt-F.AwaitIn k t) = (u : Ty) × (port_ty K k K.inputs ≡ Some u) × takes_from t u
   hands (KStmt-F.AwaitTime e u t) = takes_from t ty.S32
-  hands (KStmt-F.AwaitEvent e t) = (x : KEvent) → event_at K e K.events ≡ Some x → takes_from t x.ty
+  hands (KStmt-F.AwaitEvent e t) = (x : KEvent) × (event_at K e K.events ≡ Some x) × takes_from t x.ty
   hands (KStmt-F.AwaitCode c es f t) = (k : KCode) → code_at c K.codes ≡ Some k → takes_from t k.result
   hands layer = Unit {0}
 
@@ -50,9 +50,9 @@ module _ (K : Kernel) where
     if_hands u None h v x = tt
     if_hands u (Some l) h v x = held_value l.ty u v (last_holds _ (holds_all l.ty u) h) x
 
-    port_hands : (o : Option Ty) (t : Option Loc) → on_ty K o (λ u. takes_if K sc u t) ≡ true → (u : Ty) → o ≡ Some u → takes_from t u
-    port_hands None t h u e = absurd (false≢true h)
-    port_hands (Some a) t h u e = if_hands u t (subst (λ o. on_ty K o (λ z. takes_if K sc z t) ≡ true) e h)
+    port_hands : (o : Option Ty) (t : Option Loc) → on_ty K o (λ u. takes_if K sc u t) ≡ true → (u : Ty) × (o ≡ Some u) × takes_from t u
+    port_hands None t h = absurd (false≢true h)
+    port_hands (Some a) t h = (a, refl, if_hands a t h)
 
     event_hands : (x : KEvent) (t : Option Loc) → on_ty K (event_seen K sc (Some x)) (λ u. takes_if K sc u t) ≡ true → takes_from t x.ty
     event_hands x t h = go x.code h
@@ -65,11 +65,15 @@ module _ (K : Kernel) where
         go None q = if_hands x.ty t q
         go (Some c) q = inner (is_code c sc.code) q
 
+    on_event : (o : Option KEvent) (t : Option Loc) → on_ty K (event_seen K sc o) (λ u. takes_if K sc u t) ≡ true → (x : KEvent) × (o ≡ Some x) × takes_from t x.ty
+    on_event None t h = absurd (false≢true h)
+    on_event (Some x) t h = (x, refl, event_hands x t h)
+
     stmt_hands : (n : ℕ) (st : KStmt) → stmt_ok K (names_of K) sc n st ≡ true → hands (out-KStmt st)
     unfolding stmt_ok out-KStmt Carrier.out
     stmt_hands n (AwaitIn k t) h = port_hands (port_ty K k K.inputs) t (last_holds (is_trail sc.place) _ h)
     stmt_hands n (AwaitTime e u t) h = if_hands ty.S32 t (last_holds (is_trail sc.place && time_ok K sc e u) _ h)
-    stmt_hands n (AwaitEvent e t) h = λ x q. event_hands x t (subst (λ o. on_ty K (event_seen K sc o) (λ u. takes_if K sc u t) ≡ true) q (last_holds (is_trail sc.place) _ h))
+    stmt_hands n (AwaitEvent e t) h = on_event (event_at K e K.events) t (last_holds (is_trail sc.place) _ h)
     stmt_hands n (AwaitCode c es f t) h = λ k q.
         if_hands k.result t (last_holds (gives_all K sc k.params es) (takes_if K sc k.result t)
         (subst (λ o. (elim o [ None ↦ false | Some j ↦ gives_all K sc j.params es && takes_if K sc j.result t ]) ≡ true) q

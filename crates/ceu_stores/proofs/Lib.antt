@@ -2,4 +2,6 @@ pub mod Trees
 pub mod Values
 pub mod Aborts
 pub mod Hands
+pub mod Exits
+pub mod Leaf
 pub mod Runs

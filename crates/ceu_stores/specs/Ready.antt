@@ -30,9 +30,9 @@ module _ (K : Kernel) where
   unfoldable mutual
     pub tree_ready : Residual → Type 0
     tree_ready (Run n a) = act_ready a
-    tree_ready (WaitInput k s) = (t : Ty) → port_ty K k K.inputs ≡ Some t → takes_all s t
+    tree_ready (WaitInput k s) = (t : Ty) × (port_ty K k K.inputs ≡ Some t) × takes_all s t
     tree_ready (WaitTime d s) = takes_all s ty.S32
-    tree_ready (WaitEvent e s) = (x : KEvent) → event_at K e K.events ≡ Some x → takes_all s x.ty
+    tree_ready (WaitEvent e s) = (x : KEvent) × (event_at K e K.events ≡ Some x) × takes_all s x.ty
     tree_ready (InAsync s served r) = tree_ready r
     tree_ready (Block b fin all r rest) = all_ready all × tree_ready r
     tree_ready (Open s r) = tree_ready r
