@@ -4,4 +4,5 @@ pub mod Aborts
 pub mod Hands
 pub mod Exits
 pub mod Leaf
+pub mod Steps
 pub mod Runs
