@@ -5,4 +5,5 @@ pub mod Hands
 pub mod Exits
 pub mod Leaf
 pub mod Steps
+pub mod Reactions
 pub mod Runs
