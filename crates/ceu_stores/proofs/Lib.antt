@@ -6,4 +6,5 @@ pub mod Exits
 pub mod Leaf
 pub mod Steps
 pub mod Reactions
+pub mod Commands
 pub mod Runs

@@ -2,4 +2,4 @@ use Rattle.ceu_stores.proofs.Runs.{boot_types}
 use Rattle.ceu_stores.proofs.boot_typed.Goals as goal
 
 pub returns : goal.returns
-returns c = λ K. boot_types K
+returns y = λ K. boot_types K
