@@ -1,18 +1,17 @@
 -- An abortion of the parts around a leaf keeps each value of its type.
-use Rattle.std.proofs.Common.{◌≡◌, refl, sym, subst, ℕ, Bool, true, false, List, [], ◌∷◌, ◌++◌, append-nil}
+use Rattle.std.proofs.Common.{◌≡◌, sym, ℕ, Bool, true, List, [], ◌∷◌, ◌++◌, append-nil}
 use Rattle.ceu_tree.specs.declared.kernel.Kernel.{Kernel}
 use Rattle.ceu_tree.specs.declared.kernel.ParKind.{ParKind}
 use Rattle.ceu_tree.specs.declared.kernel.KNode.{KNode}
 use Rattle.ceu_tree.specs.declared.kernel.KBlock.{KBlock, out-KBlock}
-use Rattle.ceu_tree.specs.declared.kernel.KStmt.{out-KStmt}
 use Rattle.ceu_tree.specs.declared.kernel.KStmt.TheOpen.{KStmt-F}
-use Rattle.ceu_tree.specs.Residual.{Body, Awaited, Spawned, Act, AtEnd, Seat, Residual, Over, Branches, branch, Instances, instance}
-use Rattle.ceu_tree.specs.Focus.{Frame, OfBlock, OfInstance, OfOpen, OfLoop, OfCall, OfPar, Focus, Here, In, join, join_instances, fill, plug, body_in}
+use Rattle.ceu_tree.specs.Residual.{Body, Awaited, Spawned, Act, AtEnd, Residual, Over, Branches, branch, Instances, instance}
+use Rattle.ceu_tree.specs.Focus.{Frame, Focus, Here, In, join, join_instances, fill, plug}
 use Rattle.ceu_tree.specs.World.{World, forget_declared}
 use Rattle.ceu_tree.specs.Abort.{finalized, aborted, branches_aborted, instances_aborted, closed}
 use Rattle.ceu_tree.specs.Proper.{Scope, pools_seen, is_proper}
 use Rattle.ceu_legal.specs.Shape.{Part, ABlock, block_scope, EachFits, no_more, an_ended, a_branch, AllFit, none_lives, one_lives, FrameFits, around_statement, around_end, around_instance, around_part, around_turn, around_call, around_branch, Around, nothing_around, one_around}
-use Rattle.ceu_legal.proofs.Static.{BlockOk, each_fine, nodes_fine, names_of, code_static}
+use Rattle.ceu_legal.proofs.Static.{each_fine, nodes_fine, names_of, code_static}
 use Rattle.ceu_legal.proofs.UpFits.{Sound, layer_of, list_sound, frame_sound}
 use Rattle.ceu_held.specs.Declared.{block_rows, rows}
 use Rattle.ceu_held.proofs.Aborts.{registered_fine}
@@ -40,7 +39,8 @@ module _ (K : Kernel) (proper : is_proper K ≡ true) where
       → Known K proper (ABlock turn sc b) → nodes_fine K (names_of K) (block_scope sc b) fin → Gone (closed b fin all body)
   closed_typed {sc = sc} {all = all} turn b fin body fit k f w x = block_gone turn sc b fin body k f (instances_aborted all w) (all_typed_kept K proper fit w x)
 
-  joined_gone : {t : ℕ} {sc : Scope} {front : Instances} (back : Instances) → AllFit K t sc front → Gone (instances_aborted back) → Gone (instances_aborted (join_instances front back))
+  joined_gone : {t : ℕ} {sc : Scope} {front : Instances} (back : Instances) → AllFit K t sc front → Gone (instances_aborted back)
+      → Gone (instances_aborted (join_instances front back))
   unfolding aborted
   joined_gone back none_lives h w x = h w x
   joined_gone back (one_lives {seat = seat} {r = r} {more = more} k p e fit rest) h w x =
@@ -49,16 +49,20 @@ module _ (K : Kernel) (proper : is_proper K ≡ true) where
 
   -- ---- branches
 
-  each_after : (sc : Scope) (bs : List KBlock) (b : KBlock) (cs : List KBlock) → each_fine K (names_of K) sc (bs ++ b ∷ cs) → each_fine K (names_of K) sc cs
+  each_after : (sc : Scope) (bs : List KBlock) (b : KBlock) (cs : List KBlock) → each_fine K (names_of K) sc (bs ++ b ∷ cs)
+      → each_fine K (names_of K) sc cs
   each_after sc [] b cs h = h.1
   each_after sc (x ∷ bs) b cs h = each_after sc bs b cs h.1
 
-  rows_after : (ps : List ℕ) (bs : List KBlock) (b : KBlock) (cs : List KBlock) → Incl (blocks_all_rows ps (bs ++ b ∷ cs)) (rows K) → Incl (blocks_all_rows ps cs) (rows K)
+  rows_after : (ps : List ℕ) (bs : List KBlock) (b : KBlock) (cs : List KBlock) → Incl (blocks_all_rows ps (bs ++ b ∷ cs)) (rows K)
+      → Incl (blocks_all_rows ps cs) (rows K)
   rows_after ps [] b cs h = incl_right (block_rows ps b) (blocks_all_rows ps cs) (rows K) h
   rows_after ps (x ∷ bs) b cs h = rows_after ps bs b cs (incl_right (block_rows ps x) (blocks_all_rows ps (bs ++ b ∷ cs)) (rows K) h)
 
-  joined_branches : {t : ℕ} {sc : Scope} {k : ParKind} {bs : List KBlock} {front : Branches} (cs : List KBlock) (back : Branches) → EachFits K t sc k bs front
-      → each_fine K (names_of K) sc (bs ++ cs) → Incl (blocks_all_rows (pools_seen sc.seen) (bs ++ cs)) (rows K) → KnownSeen K proper sc.seen → (body : Body)
+  joined_branches : {t : ℕ} {sc : Scope} {k : ParKind} {bs : List KBlock} {front : Branches} (cs : List KBlock) (back : Branches)
+      → EachFits K t sc k bs front
+      → each_fine K (names_of K) sc (bs ++ cs) → Incl (blocks_all_rows (pools_seen sc.seen) (bs ++ cs)) (rows K) → KnownSeen K proper sc.seen
+      → (body : Body)
       → Gone (branches_aborted back body) → Gone (branches_aborted (join front back) body)
   unfolding aborted
   joined_branches cs back no_more h i j body q w x = q w x
@@ -70,7 +74,8 @@ module _ (K : Kernel) (proper : is_proper K ≡ true) where
 
   -- ---- a frame, and all that are around a leaf
 
-  pub frame_gone : {t : ℕ} {fr : Frame} {d e : Part} → FrameFits K t fr d e → Sound K proper d → Known K proper d → (r : Residual) → ((body : Body) → Gone (aborted r body))
+  pub frame_gone : {t : ℕ} {fr : Frame} {d e : Part} → FrameFits K t fr d e → Sound K proper d → Known K proper d → (r : Residual)
+      → ((body : Body) → Gone (aborted r body))
       → (body : Body) → Gone (aborted (fill fr r) body)
   unfolding aborted
   frame_gone (around_statement {turn = turn} {sc = sc} {b = b} {fin = fin} {rest = rest} {all = all} {s = s} done e f fit) h k r q body w x =
@@ -94,7 +99,8 @@ module _ (K : Kernel) (proper : is_proper K ≡ true) where
   pub frame_knows : {t : ℕ} {fr : Frame} {d e : Part} → FrameFits K t fr d e → Known K proper d → Known K proper e
   frame_knows {fr = fr} a h = around_known K proper {f = In fr (Here AtEnd)} (one_around a nothing_around) h
 
-  pub focus_gone : {t : ℕ} {f : Focus Act} {d e : Part} → Around K t Act f d e → Sound K proper d → Known K proper d → (r : Residual) → ((body : Body) → Gone (aborted r body))
+  pub focus_gone : {t : ℕ} {f : Focus Act} {d e : Part} → Around K t Act f d e → Sound K proper d → Known K proper d → (r : Residual)
+      → ((body : Body) → Gone (aborted r body))
       → (body : Body) → Gone (aborted (plug f r) body)
   focus_gone nothing_around h k r q body w x = q body w x
   focus_gone {f = In fr f} (one_around a more) h k r q body w x = frame_gone a h k (plug f r) (focus_gone more (frame_sound K proper a h) (frame_knows a k) r q) body w x

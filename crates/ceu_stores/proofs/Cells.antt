@@ -1,5 +1,5 @@
 -- Where values are of the types of their variables, open declarations hold cells of legal configurations.
-use Rattle.std.proofs.Common.{◌≡◌, refl, sym, ap, ◌∙◌, subst, ℕ, Bool, true, false, ◌&&◌, inl, inr, List, [], ◌∷◌, ◌++◌, Option, Some, None}
+use Rattle.std.proofs.Common.{◌≡◌, refl, sym, ap, ◌∙◌, subst, ℕ, true, false, ◌&&◌, inl, inr, List, [], ◌∷◌, Option, Some, None}
 use Rattle.std.proofs.lemmas.Bool.{and_parts, and_from, false≢true}
 use Rattle.ceu_tree.specs.declared.kernel.Kernel.{Kernel}
 use Rattle.ceu_tree.specs.declared.kernel.KCode.{KCode}
@@ -10,11 +10,11 @@ use Rattle.ceu_tree.specs.declared.kernel.ParKind.{ParKind}
 use Rattle.ceu_tree.specs.declared.kernel.KBlock.{KBlock, out-KBlock}
 use Rattle.ceu_tree.specs.declared.kernel.KStmt.{out-KStmt}
 use Rattle.ceu_tree.specs.declared.kernel.KStmt.TheOpen.{KStmt-F}
-use Rattle.ceu_tree.specs.Residual.{Body, Program, Awaited, Spawned, Residual, Branches, Instances}
+use Rattle.ceu_tree.specs.Residual.{Body, Awaited, Spawned, Residual, Branches, Instances}
 use Rattle.ceu_tree.specs.World.{Cell, Holds, NotSet, Names, World, look}
 use Rattle.ceu_tree.specs.Leaf.{code_at}
 use Rattle.ceu_tree.specs.Legal.{Seated, called_code}
-use Rattle.ceu_tree.specs.Proper.{SlotKind, Scope, pools_seen, slot_kind, is_proper}
+use Rattle.ceu_tree.specs.Proper.{Scope, pools_seen, slot_kind, is_proper}
 use Rattle.ceu_legal.specs.Shape.{Part, Fits, to_begin, to_turn, in_list, to_finish, at_input, at_time, at_event, at_forever, at_async, in_part, in_turn, in_call, in_par, EachFits, no_more, an_ended, a_branch, AllFit, none_lives, one_lives}
 use Rattle.ceu_held.specs.Declared.{inner_pools, decl_rows, block_rows, rows, kind_at}
 use Rattle.ceu_held.specs.Kinds.{cell_fits, slot_fits, fits_declared, fits_given, kinds_fit, kinds_fit_branches, kinds_fit_instances}
@@ -27,11 +27,13 @@ use Rattle.ceu_held.proofs.Typing.{AllTyped, look_typed}
 use Rattle.ceu_stores.specs.Cells.{cell_legal, decls_legal, given_legal, cells_legal, branches_legal, instances_legal}
 
 module _ (K : Kernel) (proper : is_proper K ≡ true) (w : World) (found : List Seated) (typed : AllTyped K proper w) where
-  slot_legal : (body : Body) (ps : List ℕ) (slot : ℕ) (k : KKind) → kind_at slot (rows K) ≡ Some (slot_kind ps k) → slot_fits K.codes w body slot k ≡ true
+  slot_legal : (body : Body) (ps : List ℕ) (slot : ℕ) (k : KKind) → kind_at slot (rows K) ≡ Some (slot_kind ps k)
+      → slot_fits K.codes w body slot k ≡ true
       → (qs : List ℕ) → decl_agrees K w found body qs slot k ≡ true → cell_legal K w found body qs k (look body slot w.values) ≡ true
   slot_legal body ps slot k e f qs a = go k (look body slot w.values) refl e f a
     where
-      go : (k : KKind) (o : Option Cell) → look body slot w.values ≡ o → kind_at slot (rows K) ≡ Some (slot_kind ps k) → cell_fits K.codes w k o ≡ true
+      go : (k : KKind) (o : Option Cell) → look body slot w.values ≡ o → kind_at slot (rows K) ≡ Some (slot_kind ps k)
+          → cell_fits K.codes w k o ≡ true
           → decl_agrees K w found body qs slot k ≡ true → cell_legal K w found body qs k o ≡ true
       go k None q e f a = refl
       go (kind.Var t) (Some (Holds v)) q e f a = sym (ap (λ o. cell_typed o (Holds v)) e) ∙ look_typed K proper body slot (Holds v) w.values typed q
@@ -61,14 +63,16 @@ module _ (K : Kernel) (proper : is_proper K ≡ true) (w : World) (found : List 
   variables_agree body qs [] h = refl
   variables_agree body qs (d ∷ ds) h = and_from _ _ (ap (decl_agrees K w found body qs d.slot) h.0.1) (variables_agree body qs ds h.1)
 
-  code_legal : (body : Body) (c : ℕ) (o : Option KCode) → code_at c K.codes ≡ o → fits_given K.codes w body o ≡ true → given_legal K w found body o ≡ true
+  code_legal : (body : Body) (c : ℕ) (o : Option KCode) → code_at c K.codes ≡ o → fits_given K.codes w body o ≡ true
+      → given_legal K w found body o ≡ true
   code_legal body c None e f = refl
   code_legal body c (Some k) e f = declared_legal body (inner_pools [] k.params) [] k.params (params_known K proper c k e) f (variables_agree body [] k.params (parameters_are K c k proper e))
 
   mutual
     unfolding kinds_fit names_agree cells_legal
 
-    pub tree_legal : {t : ℕ} {d : Part} {r : Residual} → Fits K t d r → Known K proper d → (body : Body) (ps : List ℕ) → kinds_fit K.codes w r body ≡ true
+    pub tree_legal : {t : ℕ} {d : Part} {r : Residual} → Fits K t d r → Known K proper d → (body : Body) (ps : List ℕ)
+        → kinds_fit K.codes w r body ≡ true
         → names_agree K w found r body ps ≡ true → cells_legal K w found r body ps ≡ true
     tree_legal (to_begin n) i body ps f a = refl
     tree_legal (to_turn n q) i body ps f a = refl
@@ -97,7 +101,8 @@ module _ (K : Kernel) (proper : is_proper K ≡ true) (w : World) (found : List 
     tree_legal (in_par {sc = sc} {s = s} k slot bs e q more) i body ps f a = each_legal more (parts_known K proper (pools_seen sc.seen) s (KStmt-F.Par k slot bs) e i.0) i.1 body ps f a
 
     each_legal : {t : ℕ} {sc : Scope} {k : ParKind} {bs : List KBlock} {rs : Branches} → EachFits K t sc k bs rs
-        → Incl (blocks_all_rows (pools_seen sc.seen) bs) (rows K) → KnownSeen K proper sc.seen → (body : Body) (ps : List ℕ) → kinds_fit_branches K.codes w rs body ≡ true
+        → Incl (blocks_all_rows (pools_seen sc.seen) bs) (rows K) → KnownSeen K proper sc.seen → (body : Body) (ps : List ℕ)
+        → kinds_fit_branches K.codes w rs body ≡ true
         → branches_agree K w found rs body ps ≡ true → branches_legal K w found rs body ps ≡ true
     each_legal no_more i j body ps f a = refl
     each_legal {sc = sc} (an_ended {b = b} {bs = bs} m rest) i j body ps f a = each_legal rest (incl_right (block_rows (pools_seen sc.seen) b) (blocks_all_rows (pools_seen sc.seen) bs) (rows K) i) j body ps f a
@@ -107,7 +112,8 @@ module _ (K : Kernel) (proper : is_proper K ≡ true) (w : World) (found : List 
         and_from _ _ (tree_legal fit (incl_left (block_rows (pools_seen sc.seen) b) (blocks_all_rows (pools_seen sc.seen) bs) (rows K) i, j) body ps f1.0 a1.0)
         (each_legal rest (incl_right (block_rows (pools_seen sc.seen) b) (blocks_all_rows (pools_seen sc.seen) bs) (rows K) i) j body ps f1.1 a1.1)
 
-    all_legal : {t : ℕ} {sc : Scope} {all : Instances} → AllFit K t sc all → kinds_fit_instances K.codes w all ≡ true → instances_agree K w found all ≡ true
+    all_legal : {t : ℕ} {sc : Scope} {all : Instances} → AllFit K t sc all → kinds_fit_instances K.codes w all ≡ true
+        → instances_agree K w found all ≡ true
         → instances_legal K w found all ≡ true
     all_legal none_lives f a = refl
     all_legal (one_lives {seat = seat} {r = r} {more = more} k q e fit rest) f a =

@@ -97,7 +97,8 @@ module _ (K : Kernel) where
   either_ready true x y h k = h
   either_ready false x y h k = k
 
-  input_ready : (event : ℕ) (v : ℤ) → ((t : Ty) → port_ty K event K.inputs ≡ Some t → IsValue t v) → (r : Residual) → tree_ready K r → tree_ready K (by_input event v r)
+  input_ready : (event : ℕ) (v : ℤ) → ((t : Ty) → port_ty K event K.inputs ≡ Some t → IsValue t v) → (r : Residual) → tree_ready K r
+      → tree_ready K (by_input event v r)
   unfolding tree_ready
   input_ready event v h (WaitInput k s) r = go (k == event) refl
     where
@@ -129,14 +130,16 @@ module _ (K : Kernel) where
       inner q = subst (λ (u : Unserved). tree_ready K u.inner) (ap (λ o. elim o [ None ↦ record { stmt = s; inner = r } | Some u ↦ u ]) q) h
   unserved_ready r x e h = absurd (cc)
 
-  leaves_typed : (g : Residual → Residual) (r : Residual) (w : World) → ((q : Residual) → tree_int q → tree_int (g q)) → ((q : Residual) → tree_ready K q → tree_ready K (g q)) → TreeTyped K r w → TreeTyped K (each_leaf g r) w
+  leaves_typed : (g : Residual → Residual) (r : Residual) (w : World) → ((q : Residual) → tree_int q → tree_int (g q))
+      → ((q : Residual) → tree_ready K q → tree_ready K (g q)) → TreeTyped K r w → TreeTyped K (each_leaf g r) w
   leaves_typed g r w i t h = record { values = h.values; ranges = ints.leaves_kept g i r h.ranges; trails = leaves_ready K g t r h.trails }
 
   module _ (proper : is_proper K ≡ true) where
     reacts_typed : (k : ℕ) (r : Residual) (w : World) → Fits K 1 (program_part K) r → TreeTyped K r w → StoresTyped K (reacts K k r w)
     reacts_typed k r w t h = steps_typed K proper k (Between 0 r w) t h
 
-    input_typed : (k event : ℕ) (v : ℤ) (c : Config) → CommandTyped K (Input event v) → ConfigFits K c → StoresTyped K c → StoresTyped K (input K k event v c)
+    input_typed : (k event : ℕ) (v : ℤ) (c : Config) → CommandTyped K (Input event v) → ConfigFits K c → StoresTyped K c
+        → StoresTyped K (input K k event v c)
     input_typed k event v (Waiting r w) q t h =
         reacts_typed k (each_leaf (by_input event v) r) w (leaves_fit K 0 1 (by_input event v) (by_input_fits K event v) t) (leaves_typed (by_input event v) r w (input_int event v) (input_ready event v q) h)
     input_typed k event v (Turning n f w) q t h = h
@@ -202,7 +205,8 @@ module _ (K : Kernel) where
     ServedTyped (Done w) = all_typed K w
     ServedTyped x = Unit {0}
 
-    serve_typed : (k : ℕ) (root : Body) (f : Focus Act) (w : World) (d : Part) → Apart d → TurnFits K 1 d f → TurnTyped K f w → ServedTyped (serve K k root f w)
+    serve_typed : (k : ℕ) (root : Body) (f : Focus Act) (w : World) (d : Part) → Apart d → TurnFits K 1 d f → TurnTyped K f w
+        → ServedTyped (serve K k root f w)
     unfolding serve tree_int tree_ready
     serve_typed zero root f w d a t x = tt
     serve_typed (suc k) root f w d a t x =
@@ -214,7 +218,8 @@ module _ (K : Kernel) where
         s : Stepped K proper (stepped K 0 root f w)
         s = turn_typed K proper 0 root f w d a.closed a.sound a.known a.inside t x
 
-        go : (x : Outcome) → Comes K 0 d x → outcome_int x → outcome_ready K x → ((q : Focus Act) → TurnFits K 1 d q → TurnTyped K q u → ServedTyped (serve K k root q u))
+        go : (x : Outcome) → Comes K 0 d x → outcome_int x → outcome_ready K x
+            → ((q : Focus Act) → TurnFits K 1 d q → TurnTyped K q u → ServedTyped (serve K k root q u))
             → ServedTyped (elim x [
               | Goes g ↦ elim (is_again (leaf g)) [ true ↦ Turned (plug g (Run 0 Again)) u | false ↦ serve K k root g u ]
               | Fails e r ↦ Failed e r u
@@ -237,7 +242,8 @@ module _ (K : Kernel) where
         go AtLoopHead y i r ih = s.values
         go (Leaves node e) y i r ih = s.values
 
-    first_typed : (k : ℕ) (root : Body) (p : Option (Focus Act)) (r : Residual) (w : World) (d : Part) → Apart d → ChoiceFits K 1 Act (runs_at 0) d p → FoundIn Act (runs_at 0) r p → TreeTyped K r w → ServedTyped (serve_first K k root p r w)
+    first_typed : (k : ℕ) (root : Body) (p : Option (Focus Act)) (r : Residual) (w : World) (d : Part) → Apart d
+        → ChoiceFits K 1 Act (runs_at 0) d p → FoundIn Act (runs_at 0) r p → TreeTyped K r w → ServedTyped (serve_first K k root p r w)
     first_typed k root None r w d a t x h = h
     first_typed k root (Some f) r w d a t x h = serve_typed k root f w d a (turn_of_chosen K proper 0 d f t) (found_typed K proper 0 r w f x h)
 
@@ -245,7 +251,8 @@ module _ (K : Kernel) where
     around_inside nothing_around i = i
     around_inside (one_around a more) i = around_inside more (frame_inside K proper a i.ground i.on i.low)
 
-    async_apart : (sc : Scope) (s : KNode) (b : KBlock) → out-KStmt s.stmt ≡ KStmt-F.Async b → Sound K proper (AStatement sc s) → Known K proper (AStatement sc s) → Inside (AStatement sc s) → Apart (ABlock false (async_scope K sc) b)
+    async_apart : (sc : Scope) (s : KNode) (b : KBlock) → out-KStmt s.stmt ≡ KStmt-F.Async b → Sound K proper (AStatement sc s)
+        → Known K proper (AStatement sc s) → Inside (AStatement sc s) → Apart (ABlock false (async_scope K sc) b)
     async_apart sc s b e h k i = record {
       closed = λ node u v. false≢true u;
       sound = (layer_of K proper sc s (KStmt-F.Async b) e h).1;
@@ -253,7 +260,8 @@ module _ (K : Kernel) where
       inside = (let g = inner_ground s (KStmt-F.Async b) i.ground e i.on in record { ground = g.ground; on = g.on; low = tt });
     }
 
-    after_typed : (k : ℕ) (o : Focus Unserved) (x : Served) (r : Residual) (w : World) (sc : Scope) (b : KBlock) → Around K 0 Unserved o (program_part K) (AStatement sc (leaf o).stmt) → out-KStmt (leaf o).stmt.stmt ≡ KStmt-F.Async b
+    after_typed : (k : ℕ) (o : Focus Unserved) (x : Served) (r : Residual) (w : World) (sc : Scope) (b : KBlock)
+        → Around K 0 Unserved o (program_part K) (AStatement sc (leaf o).stmt) → out-KStmt (leaf o).stmt.stmt ≡ KStmt-F.Async b
         → frames_ready K o → focus_int (at_end o) → TreeTyped K r w → ServedTyped x → StoresTyped K (after_serving K k o x r w)
     unfolding tree_int tree_ready
     after_typed k o Unfinished r w sc b a e p i h s = record { values = h.values; ranges = h.ranges; trails = h.trails }
@@ -270,7 +278,8 @@ module _ (K : Kernel) where
         })
     after_typed k o (Failed y q u) r w sc b a e p i h s = tt
 
-    served_typed : (k : ℕ) (p : Option (Focus Unserved)) (r : Residual) (w : World) → ChoiceFits K 0 Unserved unserved (program_part K) p → FoundIn Unserved unserved r p → TreeTyped K r w → StoresTyped K (served K k p r w)
+    served_typed : (k : ℕ) (p : Option (Focus Unserved)) (r : Residual) (w : World) → ChoiceFits K 0 Unserved unserved (program_part K) p
+        → FoundIn Unserved unserved r p → TreeTyped K r w → StoresTyped K (served K k p r w)
     served_typed k None r w t x h = h
     served_typed k (Some o) r w t x h =
         let l = async_leaf K proper t.part t.was (leaf o) t.fits t.picked in
@@ -308,7 +317,8 @@ module _ (K : Kernel) where
     done_typed k (Advance us) c t q h = advance_typed k (us + 1) us c t h
     done_typed k (Idle j) c t q h = idle_turns_typed k j c t h
 
-    all_typed_done : (k : ℕ) (xs : List Command) (c : Config) → ConfigFits K c → all_commands_typed K xs → StoresTyped K c → StoresTyped K (all_done K k xs c)
+    all_typed_done : (k : ℕ) (xs : List Command) (c : Config) → ConfigFits K c → all_commands_typed K xs → StoresTyped K c
+        → StoresTyped K (all_done K k xs c)
     unfolding all_done
     all_typed_done k [] c t q h = h
     all_typed_done k (x ∷ xs) c t q h = all_typed_done k xs (done K k x c) (done_fits K proper k x c t) q.1 (done_typed k x c t q.0 h)

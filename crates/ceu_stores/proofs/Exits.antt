@@ -1,8 +1,5 @@
 -- What the parts around a leaf do keeps stores well-typed: what a statement or a body is left with is a value that its target takes.
-use Rattle.std.proofs.Common.{◌≡◌, refl, sym, ap, ◌∙◌, subst, ℕ, suc, ◌+◌, ℤ, pos, ◌+ℤ◌, int_lt, Bool, true, false, if◌then◌else◌, ◌==◌, inl, inr, List, [], ◌∷◌, ◌++◌, append-nil, Option, Some, None, eqb-true, eq-eqb}
-use Rattle.std.proofs.lemmas.Bool.{false≢true}
-use Rattle.ceu_base.specs.declared.kinds.Ty.TheVariants as ty
-use Rattle.ceu_base.specs.Values.{is_value}
+use Rattle.std.proofs.Common.{◌≡◌, refl, sym, ap, ◌∙◌, subst, ℕ, suc, ◌+◌, pos, ◌+ℤ◌, int_lt, Bool, true, false, if◌then◌else◌, ◌==◌, inl, inr, List, [], ◌∷◌, append-nil, Some, eqb-true, eq-eqb}
 use Rattle.ceu_tree.specs.declared.kernel.Kernel.{Kernel}
 use Rattle.ceu_tree.specs.declared.kernel.KLoop.{KLoop}
 use Rattle.ceu_tree.specs.declared.kernel.KLoop.TheVariants as turns
@@ -12,17 +9,16 @@ use Rattle.ceu_tree.specs.declared.kernel.KNode.{KNode}
 use Rattle.ceu_tree.specs.declared.kernel.KBlock.{KBlock, out-KBlock}
 use Rattle.ceu_tree.specs.declared.kernel.KStmt.{out-KStmt}
 use Rattle.ceu_tree.specs.declared.kernel.KStmt.TheOpen.{KStmt-F}
-use Rattle.ceu_tree.specs.Residual.{Body, Awaited, Act, Begin, Again, Counter, Free, Turns, Upward, Seat, Residual, Over, Par, Branches, branch, Instances}
-use Rattle.ceu_tree.specs.Focus.{Frame, OfBlock, OfInstance, OfOpen, OfLoop, OfCall, OfPar, Focus, Here, In, join, join_instances, plug, leaf, body_in}
+use Rattle.ceu_tree.specs.Residual.{Body, Awaited, Act, Begin, Again, Counter, Free, Turns, Upward, Over, Par, Branches, branch, Instances}
+use Rattle.ceu_tree.specs.Focus.{Frame, OfBlock, OfInstance, OfOpen, OfLoop, OfCall, OfPar, Focus, Here, In, join, plug, leaf, body_in}
 use Rattle.ceu_tree.specs.World.{World, Holds, set}
 use Rattle.ceu_tree.specs.Abort.{aborted, returned}
-use Rattle.ceu_tree.specs.Leaf.{Layer, Exit, Escape, Break, Continue, target_of, target, next_of, rest_of}
-use Rattle.ceu_tree.specs.Around.{Outcome, Goes, Rests, Raises, Fails, Past, Registers, AtBlockEnd, AtLoopHead, Ends, Leaves, Moved, moved, value_with, body_left, open_left, again, begins_turn, turn_of, next_turn, loop_exit, loop_left, all_over, kind_of, rejoined, through, up}
+use Rattle.ceu_tree.specs.Leaf.{Exit, Escape, Break, Continue, target_of, target, next_of, rest_of}
+use Rattle.ceu_tree.specs.Around.{Outcome, Goes, Rests, Raises, Fails, Past, Registers, AtBlockEnd, AtLoopHead, Ends, Leaves, Moved, moved, value_with, body_left, open_left, turn_of, next_turn, loop_exit, loop_left, all_over, kind_of, rejoined, through, up}
 use Rattle.ceu_tree.specs.Proper.{IsLoopVariable, BodyAim, Scope, find, is_proper}
-use Rattle.ceu_legal.specs.Shape.{Part, ABlock, AStatement, AnEnd, part_scope, turn_scope, opens_part, aimed, Comes, FrameFits, around_statement, around_end, around_instance, around_part, around_turn, around_call, around_branch, Around, nothing_around, one_around}
+use Rattle.ceu_legal.specs.Shape.{Part, ABlock, AStatement, part_scope, turn_scope, opens_part, aimed, Comes, FrameFits, around_statement, around_end, around_instance, around_part, around_turn, around_call, around_branch, Around, nothing_around, one_around}
 use Rattle.ceu_legal.proofs.Static.{names_of}
 use Rattle.ceu_legal.proofs.UpFits.{Sound, frame_sound, inside_body, up_fits}
-use Rattle.ceu_values.proofs.UpValues.{is_head_outcome}
 use Rattle.ceu_held.specs.Declared.{rows, kind_at}
 use Rattle.ceu_held.specs.Typed.{cell_typed}
 use Rattle.ceu_held.proofs.Aborts.{registered_fine}
@@ -35,9 +31,9 @@ use Rattle.ceu_counters.specs.Ints.{turns_int, layer_int, frame_int, focus_int}
 use Rattle.ceu_counters.proofs.IntRuns.{begun_int}
 use Rattle.ceu_stores.specs.Ready.{takes_value, act_ready, tree_ready, each_ready, all_ready, frame_ready, frames_ready}
 use Rattle.ceu_stores.proofs.Trees.{joined, joined_all, filled}
-use Rattle.ceu_stores.proofs.Values.{takes_zero, put_typed, targets_typed}
+use Rattle.ceu_stores.proofs.Values.{put_typed, targets_typed}
 use Rattle.ceu_stores.proofs.Aborts.{Gone, over_gone, closed_typed, frame_gone, frame_knows, focus_gone}
-use Rattle.ceu_stores.proofs.Hands.{takes_from, layer_hands, aim_takes, part_takes, part_outer, turn_outer, EndTakes, end_zero, end_result}
+use Rattle.ceu_stores.proofs.Hands.{layer_hands, aim_takes, part_takes, part_outer, turn_outer, EndTakes, end_zero, end_result}
 
 pub next_ready : (rest : List KNode) → act_ready (next_of rest)
 next_ready [] = tt
@@ -63,13 +59,15 @@ module _ (K : Kernel) (proper : is_proper K ≡ true) where
 
   -- ---- blocks
 
-  goes_good : (turn : Bool) (sc : Scope) (b : KBlock) (fin : List KNode) (all : Instances) (rest : List KNode) (w : World) → all_ready K all → AllTyped K proper w
+  goes_good : (turn : Bool) (sc : Scope) (b : KBlock) (fin : List KNode) (all : Instances) (rest : List KNode) (w : World) → all_ready K all
+      → AllTyped K proper w
       → Good (ABlock turn sc b) (moved (Goes (In (OfBlock b fin all (rest_of rest)) (Here (next_of rest)))) w)
   unfolding frames_ready
   goes_good turn sc b fin all rest w r x = record { suits = ((r, tt), next_ready rest); typed = x }
 
   body_good : (t turn : Bool) (sc : Scope) (b : KBlock) (fin : List KNode) (all : Instances) (f : Focus Act) (body : Body) (node : ℕ) (x : Exit) (w : World)
-      → (node == (out-KBlock b).node) ≡ t → aimed node sc.aims ≡ true → aim_takes node (value_with x) sc.aims ≡ true → Gone K proper (λ u. (body_left true b fin all f body node x u).world)
+      → (node == (out-KBlock b).node) ≡ t → aimed node sc.aims ≡ true → aim_takes node (value_with x) sc.aims ≡ true
+      → Gone K proper (λ u. (body_left true b fin all f body node x u).world)
       → AllTyped K proper w → Good (ABlock turn sc b) (body_left t b fin all f body node x w)
   body_good true turn sc b fin all f body node x w e a h g y =
       record { suits = inr (subst (λ m. (aimed m sc.aims ≡ true) × (aim_takes m (value_with x) sc.aims ≡ true)) (eqb-true node (out-KBlock b).node e) (a, h)); typed = g w y }
@@ -77,8 +75,10 @@ module _ (K : Kernel) (proper : is_proper K ≡ true) where
 
   -- ---- do and if
 
-  open_good : (t : Bool) (sc : Scope) (s : KNode) (b : KBlock) (f : Focus Act) (body : Body) (node : ℕ) (x : Exit) (w : World) → (node == s.node) ≡ t → opens_part (out-KStmt s.stmt) b
-      → Sound K proper (AStatement sc s) → KnownSeen K proper sc.seen → aim_takes node (value_with x) (part_scope K sc s.node (out-KStmt s.stmt)).aims ≡ true → Gone K proper (aborted (plug f Over) body)
+  open_good : (t : Bool) (sc : Scope) (s : KNode) (b : KBlock) (f : Focus Act) (body : Body) (node : ℕ) (x : Exit) (w : World)
+      → (node == s.node) ≡ t → opens_part (out-KStmt s.stmt) b
+      → Sound K proper (AStatement sc s) → KnownSeen K proper sc.seen
+      → aim_takes node (value_with x) (part_scope K sc s.node (out-KStmt s.stmt)).aims ≡ true → Gone K proper (aborted (plug f Over) body)
       → AllTyped K proper w → Good (AStatement sc s) (open_left t s f body node x w)
   open_good true sc s b f body node x w e o h k z g y =
       record { suits = tt; typed = targets_typed K proper sc (target s) (value_with x) body (aborted (plug f Over) body w) k (target_fine sc s h) (part_takes K sc s.node node (out-KStmt s.stmt) b (value_with x) o e z) (g w y) }
@@ -86,20 +86,23 @@ module _ (K : Kernel) (proper : is_proper K ≡ true) where
 
   -- ---- loops
 
-  on_good : (sc : Scope) (s : KNode) (c : Counter) (a : Act) (w : World) → act_ready a → AllTyped K proper w → Good (AStatement sc s) (moved (Goes (In (OfLoop s c) (Here a))) w)
+  on_good : (sc : Scope) (s : KNode) (c : Counter) (a : Act) (w : World) → act_ready a → AllTyped K proper w
+      → Good (AStatement sc s) (moved (Goes (In (OfLoop s c) (Here a))) w)
   unfolding frames_ready
   on_good sc s c a w r x = record { suits = ((tt, tt), r); typed = x }
 
   past_good : (sc : Scope) (s : KNode) (w : World) → AllTyped K proper w → Good (AStatement sc s) (moved Past w)
   past_good sc s w x = record { suits = tt; typed = x }
 
-  loop_exit_good : (sc : Scope) (s : KNode) (c : Counter) (x : Exit) (body : Body) (w : World) → AllTyped K proper w → Good (AStatement sc s) (loop_exit s c x body w)
+  loop_exit_good : (sc : Scope) (s : KNode) (c : Counter) (x : Exit) (body : Body) (w : World) → AllTyped K proper w
+      → Good (AStatement sc s) (loop_exit s c x body w)
   loop_exit_good sc s c Continue body w y = on_good sc s c Again w tt y
   loop_exit_good sc s c Break body w y = past_good sc s _ (forget_loop_typed K proper body s.stmt w y)
   loop_exit_good sc s c (Escape v) body w y = past_good sc s _ (forget_loop_typed K proper body s.stmt w y)
 
   loop_good : (t : Bool) (sc : Scope) (s : KNode) (c : Counter) (k : KLoop) (f : Focus Act) (body : Body) (node : ℕ) (x : Exit) (w : World)
-      → aim_takes node (value_with x) (turn_scope K sc s.node k).aims ≡ true → Gone K proper (aborted (plug f Over) body) → AllTyped K proper w → Good (AStatement sc s) (loop_left t s c f body node x w)
+      → aim_takes node (value_with x) (turn_scope K sc s.node k).aims ≡ true → Gone K proper (aborted (plug f Over) body) → AllTyped K proper w
+      → Good (AStatement sc s) (loop_left t s c f body node x w)
   loop_good true sc s c k f body node x w h g y = loop_exit_good sc s c x body (aborted (plug f Over) body w) (g w y)
   loop_good false sc s c k f body node x w h g y = record { suits = turn_outer K sc s.node node k (value_with x) h; typed = y }
 
@@ -107,7 +110,8 @@ module _ (K : Kernel) (proper : is_proper K ≡ true) where
   either d true x y h k = h refl
   either d false x y h k = k refl
 
-  turn_good : (first : Bool) (sc : Scope) (s : KNode) (k : KLoop) (b : KBlock) (c : Counter) (body : Body) (w : World) → out-KStmt s.stmt ≡ KStmt-F.Loop k b → Known K proper (AStatement sc s)
+  turn_good : (first : Bool) (sc : Scope) (s : KNode) (k : KLoop) (b : KBlock) (c : Counter) (body : Body) (w : World)
+      → out-KStmt s.stmt ≡ KStmt-F.Loop k b → Known K proper (AStatement sc s)
       → turns_int first k c → AllTyped K proper w → Good (AStatement sc s) (turn_of s k b c body w)
   turn_good first sc s (turns.Times slot limit) b (Turns j) body w e n h y = either (AStatement sc s) (j == limit) _ _ (λ q. record { suits = tt; typed = y }) (λ q. on_good sc s (Turns (j + 1)) (Begin b) w tt y)
   turn_good first sc s (turns.Range i next end open_a a z open_b) b (Upward v last) body w e n h y =
@@ -124,7 +128,8 @@ module _ (K : Kernel) (proper : is_proper K ≡ true) where
 
   -- ---- par
 
-  rejoined_good : (sc : Scope) (s : KNode) (k : ParKind) (bs : Branches) (body : Body) (w : World) → each_ready K bs → Gone K proper (aborted (Par s bs) body) → AllTyped K proper w
+  rejoined_good : (sc : Scope) (s : KNode) (k : ParKind) (bs : Branches) (body : Body) (w : World) → each_ready K bs
+      → Gone K proper (aborted (Par s bs) body) → AllTyped K proper w
       → Good (AStatement sc s) (rejoined k s bs body w)
   unfolding tree_ready
   rejoined_good sc s par.Never bs body w r g y = record { suits = r; typed = y }
@@ -134,7 +139,8 @@ module _ (K : Kernel) (proper : is_proper K ≡ true) where
   -- ---- one frame
 
   module _ (n : ℕ) (body : Body) (f : Focus Act) (w : World) (y : AllTyped K proper w) where
-    through_good : {d e : Part} (fr : Frame) (x : Outcome) → FrameFits K (suc n) fr d e → Sound K proper d → Known K proper d → Inside d → Comes K n e x → Suits e x → frame_ready K fr
+    through_good : {d e : Part} (fr : Frame) (x : Outcome) → FrameFits K (suc n) fr d e → Sound K proper d → Known K proper d → Inside d
+        → Comes K n e x → Suits e x → frame_ready K fr
         → frame_int (at_loop is_first f) fr → Gone K proper (aborted (plug f Over) (body_in fr body)) → Good d (through body fr f x w)
     unfolding frames_ready tree_ready
     through_good fr (Goes g) a h k i c s r t q = record { suits = ((r, s.0), s.1); typed = y }
@@ -176,7 +182,8 @@ module _ (K : Kernel) (proper : is_proper K ≡ true) where
     through_good fr x (around_branch l slot bs b cs e z1 z2) h k i c s r t q = elim c [ ]
     through_good fr x (around_instance done l e z fit z1 z2 g o) h k i c s r t q = elim c [ ]
 
-  pub up_good : (n : ℕ) {f : Focus Act} {d e : Part} → Around K (suc n) Act f d e → Sound K proper d → Known K proper d → Inside d → (x : Outcome) (body : Body) (w : World)
+  pub up_good : (n : ℕ) {f : Focus Act} {d e : Part} → Around K (suc n) Act f d e → Sound K proper d → Known K proper d → Inside d
+      → (x : Outcome) (body : Body) (w : World)
       → Comes K n e x → Suits e x → frames_ready K f → focus_int f → AllTyped K proper w → Good d (up body f x w)
   unfolding up frames_ready focus_int
   up_good n {f = Here l} nothing_around h k i x body w c s r t y = record { suits = s; typed = y }

@@ -1,5 +1,5 @@
 -- What is handed to a statement is a value that its target takes: of an input, an event or awaited code, a delay, and what an exit gives.
-use Rattle.std.proofs.Common.{◌≡◌, refl, sym, ap, ◌∙◌, subst, ℕ, ℤ, pos, Bool, true, false, if◌then◌else◌, ◌==◌, ◌&&◌, not, ◌⊎◌, inl, inr, List, [], ◌∷◌, Option, Some, None, Ok, Err, eqb-true, eq-eqb}
+use Rattle.std.proofs.Common.{◌≡◌, refl, sym, ◌∙◌, subst, ℕ, ℤ, pos, Bool, true, false, if◌then◌else◌, ◌==◌, ◌&&◌, not, ◌⊎◌, inl, inr, List, [], ◌∷◌, Option, Some, None, Ok, eqb-true, eq-eqb}
 use Rattle.std.proofs.lemmas.Bool.{and_parts, false≢true}
 use Rattle.ceu_base.specs.declared.kinds.Ty.{Ty}
 use Rattle.ceu_base.specs.declared.kinds.Ty.TheVariants as ty
@@ -17,17 +17,17 @@ use Rattle.ceu_tree.specs.declared.kernel.KStmt.{KStmt, AwaitIn, AwaitTime, Awai
 use Rattle.ceu_tree.specs.declared.kernel.KStmt.TheOpen.{KStmt-F}
 use Rattle.ceu_tree.specs.Residual.{Body}
 use Rattle.ceu_tree.specs.World.{World}
-use Rattle.ceu_tree.specs.Expressions.{Answer, value_of, value_if}
+use Rattle.ceu_tree.specs.Expressions.{value_if}
 use Rattle.ceu_tree.specs.Typing.{same_ty, holds_all}
 use Rattle.ceu_tree.specs.Leaf.{Layer, target_of, code_at}
-use Rattle.ceu_tree.specs.Proper.{Scope, Aim, DoAim, BodyAim, LoopAim, is_trail, outside_finalizers, is_code, takes, takes_if, gives, gives_if, gives_all, port_ty, event_at, event_seen, on_ty, on_code, escape_ok, time_ok, stmt_ok, is_proper}
+use Rattle.ceu_tree.specs.Proper.{Scope, Aim, DoAim, BodyAim, LoopAim, is_trail, outside_finalizers, is_code, takes_if, gives, gives_if, gives_all, port_ty, event_at, event_seen, on_ty, on_code, escape_ok, time_ok, stmt_ok, is_proper}
 use Rattle.ceu_legal.specs.Shape.{part_scope, turn_scope, code_scope, opens_part, aimed}
 use Rattle.ceu_legal.proofs.Static.{StmtOk, names_of}
 use Rattle.ceu_results.proofs.Operators.{held_value}
 use Rattle.ceu_held.proofs.Known.{KnownSeen}
 use Rattle.ceu_held.proofs.Typing.{AllTyped, zero_value, given_value}
 use Rattle.ceu_stores.specs.Ready.{takes_value}
-use Rattle.ceu_stores.proofs.Values.{takes_zero}
+use Rattle.ceu_stores.proofs.Values.{ok_is, takes_zero}
 use denote.Hole.Carrier
 
 last_holds : (x y : Bool) → (x && y) ≡ true → y ≡ true
@@ -61,11 +61,14 @@ module _ (K : Kernel) where
         inner true q = if_hands x.ty t q
         inner false q = absurd (false≢true q)
 
-        go : (o : Option ℕ) → on_ty K (elim o [ None ↦ Some x.ty | Some c ↦ (if is_code c sc.code then Some x.ty else None) ]) (λ u. takes_if K sc u t) ≡ true → takes_from t x.ty
+        go : (o : Option ℕ)
+            → on_ty K (elim o [ None ↦ Some x.ty | Some c ↦ (if is_code c sc.code then Some x.ty else None) ]) (λ u. takes_if K sc u t) ≡ true
+            → takes_from t x.ty
         go None q = if_hands x.ty t q
         go (Some c) q = inner (is_code c sc.code) q
 
-    on_event : (o : Option KEvent) (t : Option Loc) → on_ty K (event_seen K sc o) (λ u. takes_if K sc u t) ≡ true → (x : KEvent) × (o ≡ Some x) × takes_from t x.ty
+    on_event : (o : Option KEvent) (t : Option Loc) → on_ty K (event_seen K sc o) (λ u. takes_if K sc u t) ≡ true
+        → (x : KEvent) × (o ≡ Some x) × takes_from t x.ty
     on_event None t h = absurd (false≢true h)
     on_event (Some x) t h = (x, refl, event_hands x t h)
 
@@ -131,7 +134,8 @@ module _ (K : Kernel) where
   part_outer sc m node (KStmt-F.If arms last) b v o e h = h
   part_outer sc m node layer b v o e h = elim o [ ]
 
-  pub turn_outer : (sc : Scope) (m node : ℕ) (k : KLoop) (v : ℤ) → aim_takes node v (turn_scope K sc m k).aims ≡ true → aim_takes node v sc.aims ≡ true
+  pub turn_outer : (sc : Scope) (m node : ℕ) (k : KLoop) (v : ℤ) → aim_takes node v (turn_scope K sc m k).aims ≡ true
+      → aim_takes node v sc.aims ≡ true
   turn_outer sc m node turns.Free v h = h
   turn_outer sc m node (turns.Times slot n) v h = h
   turn_outer sc m node (turns.Range i next end open_a a b open_b) v h = h
@@ -150,17 +154,16 @@ module _ (K : Kernel) where
 
   module _ (proper : is_proper K ≡ true) (sc : Scope) (known : KnownSeen K proper sc.seen) (body : Body) (w : World) (x : AllTyped K proper w) where
     if_given : (e : Option KExp) (v : ℤ) → value_if e body w ≡ Ok v → (t : Ty) → gives_if K sc t e ≡ true → IsValue t v
-    if_given None v q t h = subst (IsValue t) (zero v q) (zero_value t)
-      where
-        zero : (v : ℤ) → (let a : Answer = Ok (pos 0) in a ≡ Ok v) → pos 0 ≡ v
-        zero v e = ap (λ a. elim a [ Ok z ↦ z | Err y ↦ pos 0 ]) e
+    if_given None v q t h = subst (IsValue t) (ok_is (pos 0) v q) (zero_value t)
     if_given (Some e) v q t h = given_value K proper sc known body w x t e v (last_holds (not (same_ty t ty.None)) (gives K sc t e) h) q
 
-    choose_given : (b : Bool) (p q r s : Bool) → (p ≡ true → r ≡ true) → (q ≡ true → s ≡ true) → (if b then p else q) ≡ true → (if b then r else s) ≡ true
+    choose_given : (b : Bool) (p q r s : Bool) → (p ≡ true → r ≡ true) → (q ≡ true → s ≡ true) → (if b then p else q) ≡ true
+        → (if b then r else s) ≡ true
     choose_given true p q r s f g h = f h
     choose_given false p q r s f g h = g h
 
-    escape_takes : (m : ℕ) (e : Option KExp) (v : ℤ) → value_if e body w ≡ Ok v → (aims : List Aim) → escape_ok K sc m e aims ≡ true → aim_takes m v aims ≡ true
+    escape_takes : (m : ℕ) (e : Option KExp) (v : ℤ) → value_if e body w ≡ Ok v → (aims : List Aim) → escape_ok K sc m e aims ≡ true
+        → aim_takes m v aims ≡ true
     escape_takes m e v q [] h = refl
     escape_takes m e v q (DoAim n None ∷ aims) h = choose_given (n == m) (gives_if K sc ty.None e) (escape_ok K sc m e aims) true (aim_takes m v aims) (λ z. refl) (escape_takes m e v q aims) h
     escape_takes m e v q (DoAim n (Some t) ∷ aims) h = choose_given (n == m) (gives_if K sc t e) (escape_ok K sc m e aims) (is_value t v) (aim_takes m v aims) (if_given e v q t) (escape_takes m e v q aims) h
@@ -176,5 +179,6 @@ module _ (K : Kernel) where
     stmt_escapes n (Escape m e) h = λ v q. escape_takes m e v q sc.aims (last_holds (outside_finalizers sc.place) _ h)
     stmt_escapes n st h = tt
 
-    pub escape_fine : (s : KNode) (m : ℕ) (e : Option KExp) → out-KStmt s.stmt ≡ KStmt-F.Escape m e → StmtOk K (names_of K) sc s → (v : ℤ) → value_if e body w ≡ Ok v → aim_takes m v sc.aims ≡ true
+    pub escape_fine : (s : KNode) (m : ℕ) (e : Option KExp) → out-KStmt s.stmt ≡ KStmt-F.Escape m e → StmtOk K (names_of K) sc s → (v : ℤ)
+        → value_if e body w ≡ Ok v → aim_takes m v sc.aims ≡ true
     escape_fine s m e q h = subst escapes q (stmt_escapes s.node s.stmt h)

@@ -1,5 +1,5 @@
 -- What a leaf does by itself keeps stores well-typed: what it evaluates is of the types that its places want.
-use Rattle.std.proofs.Common.{◌≡◌, refl, sym, ap, subst, ℕ, ℤ, pos, Bool, true, false, if◌then◌else◌, List, [], ◌∷◌, Option, Some, None, Result, Ok, Err}
+use Rattle.std.proofs.Common.{◌≡◌, refl, sym, subst, ℕ, ℤ, pos, Bool, true, false, if◌then◌else◌, List, [], ◌∷◌, Option, Some, None, Result, Ok, Err}
 use Rattle.ceu_base.specs.declared.kinds.Pos.{Pos}
 use Rattle.ceu_base.specs.declared.kinds.Fault.{Fault}
 use Rattle.ceu_base.specs.declared.kinds.Ty.{Ty}
@@ -17,8 +17,8 @@ use Rattle.ceu_tree.specs.declared.kernel.KStmt.{out-KStmt}
 use Rattle.ceu_tree.specs.declared.kernel.KStmt.TheOpen.{KStmt-F}
 use Rattle.ceu_tree.specs.Residual.{Body, Awaited, Act, Begin, Start, Finish, AtEnd, AtHead, Again}
 use Rattle.ceu_tree.specs.Focus.{leaf}
-use Rattle.ceu_tree.specs.World.{World, Cell, Holds, NotSet, Names, look, set, assign, assign_if, set_parameters}
-use Rattle.ceu_tree.specs.Expressions.{Answer, names_living, value_of, value_if, values_of}
+use Rattle.ceu_tree.specs.World.{World, Cell, Holds, NotSet, Names, look}
+use Rattle.ceu_tree.specs.Expressions.{names_living, value_of, value_if, values_of}
 use Rattle.ceu_tree.specs.Leaf as does
 use Rattle.ceu_tree.specs.Leaf.{Layer, Exit, Escape, Break, Continue, Does, Opens, Waits, Passes, Spawns, Emits, Kills, Registers, Ends, Heads, Done, done, or_fails, target_of, target, code_at, chosen_part, branches_from, in_branches, loop_reached, called, spawning, killing, started, acted}
 use Rattle.ceu_tree.specs.Around as outcome
@@ -34,8 +34,8 @@ use Rattle.ceu_held.proofs.Starts.{at_start}
 use Rattle.ceu_held.proofs.Typing.{AllTyped, zero_value, assign_typed}
 use Rattle.ceu_held.proofs.Writes.{writes, at_writes}
 use Rattle.ceu_stores.specs.Ready.{takes_all, act_ready, tree_ready, each_ready, frames_ready}
-use Rattle.ceu_stores.proofs.Values.{Given, unset_typed, params_typed, targets_typed, arguments_given}
-use Rattle.ceu_stores.proofs.Hands.{takes_from, hands, layer_hands, aim_takes, zero_aimed, escape_fine}
+use Rattle.ceu_stores.proofs.Values.{ok_is, Given, unset_typed, params_typed, targets_typed, arguments_given}
+use Rattle.ceu_stores.proofs.Hands.{takes_from, hands, layer_hands, zero_aimed, escape_fine}
 use Rattle.ceu_stores.proofs.Exits.{next_ready, Suits, target_fine}
 
 module _ (K : Kernel) (proper : is_proper K ≡ true) where
@@ -56,15 +56,13 @@ module _ (K : Kernel) (proper : is_proper K ≡ true) where
     same : (e : Part) (d : Does) → DoesSuit e d → DoneGood e (done d w)
     same e d h = record { suits = h; typed = y }
 
-    or_fails_good : {A : Type 0} (e : Part) (a : Result A (Fault × Pos)) (go : A → Done) → ((v : A) → a ≡ Ok v → DoneGood e (go v)) → DoneGood e (or_fails a w go)
+    or_fails_good : {A : Type 0} (e : Part) (a : Result A (Fault × Pos)) (go : A → Done) → ((v : A) → a ≡ Ok v → DoneGood e (go v))
+        → DoneGood e (or_fails a w go)
     or_fails_good e (Ok v) go h = h v refl
     or_fails_good e (Err z) go h = same e (does.Fails z) tt
 
     emitted_value : (e : Option KExp) (v : ℤ) (t : Ty) → value_if e body w ≡ Ok v → gives_if_any K body w t e → IsValue t v
-    emitted_value None v t q h = subst (IsValue t) (zero v q) (zero_value t)
-      where
-        zero : (v : ℤ) → (let a : Answer = Ok (pos 0) in a ≡ Ok v) → pos 0 ≡ v
-        zero v e = ap (λ a. elim a [ Ok z ↦ z | Err y ↦ pos 0 ]) e
+    emitted_value None v t q h = subst (IsValue t) (ok_is (pos 0) v q) (zero_value t)
     emitted_value (Some e) v t q h = subst (IsResult t) q h
 
     branches_ready : (n : ℕ) (bs : List KBlock) → each_ready K (branches_from n bs)
@@ -84,14 +82,16 @@ module _ (K : Kernel) (proper : is_proper K ≡ true) where
     loop_reached_good e s (turns.Range i next end open_a a b open_b) = or_fails_good e (value_of a body w) _ (λ u p. or_fails_good e (value_of b body w) _ (λ v q. same e _ ((tt, tt), tt)))
 
     called_good : (e : Part) (s : KNode) (c : ℕ) (es : List KExp) (o : Option KCode) (vs : List ℤ) → code_at c K.codes ≡ o
-        → ((k : KCode) → code_at c K.codes ≡ Some k → arguments_typed K body w k.params es) → values_of es body w ≡ Ok vs → DoneGood e (called s o vs body w)
+        → ((k : KCode) → code_at c K.codes ≡ Some k → arguments_typed K body w k.params es) → values_of es body w ≡ Ok vs
+        → DoneGood e (called s o vs body w)
     unfolding frames_ready
     called_good e s c es None vs q h p = same e Passes tt
     called_good e s c es (Some k) vs q h p =
         record { suits = ((tt, tt), tt); typed = params_typed K proper (inner_pools [] k.params) (Awaited body s.node) k.params vs w (params_known K proper c k q) (arguments_given K proper body w k.params es vs (h k q) p) y }
 
     spawning_good : (e : Part) (s : KNode) (c pool : ℕ) (alias : Option ℕ) (es : List KExp) (o : Option KCode) (vs : List ℤ) → code_at c K.codes ≡ o
-        → ((k : KCode) → code_at c K.codes ≡ Some k → arguments_typed K body w k.params es) → values_of es body w ≡ Ok vs → DoneGood e (spawning s o c pool alias vs w)
+        → ((k : KCode) → code_at c K.codes ≡ Some k → arguments_typed K body w k.params es) → values_of es body w ≡ Ok vs
+        → DoneGood e (spawning s o c pool alias vs w)
     spawning_good e s c pool alias es None vs q h p = same e Passes tt
     spawning_good e s c pool alias es (Some k) vs q h p = same e (Spawns s k c pool alias vs) (arguments_given K proper body w k.params es vs (h k q) p)
 
@@ -112,7 +112,8 @@ module _ (K : Kernel) (proper : is_proper K ≡ true) where
       takes : (layer : Layer) (t : Ty) → out-KStmt s.stmt ≡ layer → takes_from (target_of layer) t → takes_all s t
       takes layer t q f = subst (λ l. takes_from (target_of l) t) (sym q) f
 
-      started_good : (n : ℕ) (layer : Layer) → out-KStmt s.stmt ≡ layer → start_typed K body w layer → writes K (names_of K) sc layer → hands K layer → DoneGood e (started K n body s layer w)
+      started_good : (n : ℕ) (layer : Layer) → out-KStmt s.stmt ≡ layer → start_typed K body w layer → writes K (names_of K) sc layer
+          → hands K layer → DoneGood e (started K n body s layer w)
       unfolding frames_ready tree_ready
       started_good n (KStmt-F.Assign l x) q a b c = or_fails_good e (value_of x body w) _ (λ v p. record { suits = tt; typed = assign_typed K proper sc l v body w k.1 b (subst (IsResult l.ty) p a) y })
       started_good n (KStmt-F.Out i x) q a b c = or_fails_good e (value_if x body w) _ (λ v p. record { suits = tt; typed = y })

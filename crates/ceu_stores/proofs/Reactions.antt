@@ -1,16 +1,14 @@
 -- Each step of a reaction of a proper kernel keeps stores well-typed.
-use Rattle.std.proofs.Common.{◌≡◌, refl, sym, ap, ◌∙◌, subst, ◌≤◌, ◌<◌, ℕ, zero, suc, ◌+◌, ℤ, Bool, true, false, if◌then◌else◌, ◌==◌, List, length, Option, Some, None, Ok, arith, lt-ltb}
+use Rattle.std.proofs.Common.{◌≡◌, sym, ap, ◌∙◌, subst, ℕ, zero, suc, Bool, true, false, if◌then◌else◌, ◌==◌, length, Option, Some, None, arith, lt-ltb}
 use Rattle.ceu_base.specs.declared.kinds.Pos.{Pos}
 use Rattle.ceu_base.specs.declared.kinds.Fault.{Fault}
 use Rattle.ceu_base.specs.declared.kinds.Ty.TheVariants as ty
 use Rattle.ceu_tree.specs.declared.kernel.Kernel.{Kernel}
-use Rattle.ceu_tree.specs.declared.kernel.KLoop.{KLoop}
 use Rattle.ceu_tree.specs.declared.kernel.KLoop.TheVariants as turns
-use Rattle.ceu_tree.specs.declared.kernel.KBlock.{KBlock}
 use Rattle.ceu_tree.specs.declared.kernel.KStmt.{out-KStmt}
 use Rattle.ceu_tree.specs.declared.kernel.KStmt.TheOpen.{KStmt-F}
-use Rattle.ceu_tree.specs.Residual.{Body, Program, Act, Begin, Start, Finish, AtEnd, AtHead, Again, Residual, Over, Run, WaitInput, WaitTime, WaitEvent, WaitForever, InAsync, Block, Open, Loop, Call, Par}
-use Rattle.ceu_tree.specs.Focus.{Focus, plug, leaf, body_of, choose}
+use Rattle.ceu_tree.specs.Residual.{Body, Program, Act, Begin, Start, Finish, AtEnd, AtHead, Again, Residual, Run}
+use Rattle.ceu_tree.specs.Focus.{Focus, leaf, body_of, choose}
 use Rattle.ceu_tree.specs.World.{World}
 use Rattle.ceu_tree.specs.Wake.{runs_at}
 use Rattle.ceu_tree.specs.Leaf.{Layer}
@@ -20,7 +18,7 @@ use Rattle.ceu_tree.specs.Step.{stepped}
 use Rattle.ceu_tree.specs.Proper.{is_proper}
 use Rattle.ceu_tree.specs.Run.{Config, Turning, Between, Waiting, Ended, Faulted, config_of, unless_failed, level_closed, chosen_at, next, steps}
 use Rattle.ceu_laws.proofs.FocusBalance.{Found, FoundIn, choose_found}
-use Rattle.ceu_legal.specs.Shape.{Part, program_part, ActFits, begins, heads, goes_again, starts, finishes, ends, TurnFits, ConfigFits}
+use Rattle.ceu_legal.specs.Shape.{Part, program_part, ActFits, TurnFits, ConfigFits}
 use Rattle.ceu_legal.proofs.UpFits.{Sound}
 use Rattle.ceu_legal.proofs.StepFits.{Closed, around_sound}
 use Rattle.ceu_legal.proofs.RunFits.{root_sound, root_closed, next_fits}
@@ -33,13 +31,13 @@ use Rattle.ceu_held.proofs.Aims.{Inside}
 use Rattle.ceu_held.proofs.Known.{Known, program_known, around_known}
 use Rattle.ceu_held.proofs.Starts.{at_start}
 use Rattle.ceu_held.proofs.Typing.{AllTyped}
-use Rattle.ceu_counters.specs.Ints.{tree_int, focus_int, outcome_int, layer_ends, act_ends}
+use Rattle.ceu_counters.specs.Ints.{tree_int, outcome_int, layer_ends, act_ends}
 use Rattle.ceu_counters.proofs.IntTrees as ints
 use Rattle.ceu_counters.proofs.IntSteps.{stepped_int}
-use Rattle.ceu_stores.specs.Ready.{act_ready, tree_ready, frames_ready}
+use Rattle.ceu_stores.specs.Ready.{act_ready, tree_ready}
 use Rattle.ceu_stores.specs.Stores.{TreeTyped, TurnTyped, StoresTyped}
 use Rattle.ceu_stores.proofs.Trees.{unplugged}
-use Rattle.ceu_stores.proofs.Steps.{outcome_ready, Whole, stepped_whole}
+use Rattle.ceu_stores.proofs.Steps.{outcome_ready, stepped_whole}
 
 -- the ends of a range that begins are ints
 loop_ends : (K : Kernel) (body : Body) (w : World) (layer : Layer) → start_typed K body w layer → layer_ends body w layer
@@ -64,7 +62,8 @@ module _ (K : Kernel) (proper : is_proper K ≡ true) where
   pub agreed : (w : World) → AllTyped K proper w → all_typed K w
   agreed w l = values.all_lie (λ h. once (is_typed K h)) (is_typed K) (λ h n. once_is (is_typed K h) ∙ lt-ltb 0 (once (is_typed K h)) (omega (arith, n))) w.values l
 
-  ends_typed : (d : Part) (a : Act) (body : Body) (w : World) → Sound K proper d → Known K proper d → ActFits d a → AllTyped K proper w → act_ends body w a
+  ends_typed : (d : Part) (a : Act) (body : Body) (w : World) → Sound K proper d → Known K proper d → ActFits d a → AllTyped K proper w
+      → act_ends body w a
   ends_typed d (Start s) body w h k f x = loop_ends K body w (out-KStmt s.stmt) (at_start K proper d s body w f h k x)
   ends_typed d (Begin b) body w h k f x = tt
   ends_typed d (Finish s v) body w h k f x = tt
@@ -78,7 +77,8 @@ module _ (K : Kernel) (proper : is_proper K ≡ true) where
     pub ranges : outcome_int m.outcome
     pub trails : outcome_ready K m.outcome
 
-  pub turn_typed : (n : ℕ) (root : Body) (f : Focus Act) (w : World) (d : Part) → Closed K proper d → Sound K proper d → Known K proper d → Inside d → TurnFits K (suc n) d f → TurnTyped K f w → Stepped (stepped K n root f w)
+  pub turn_typed : (n : ℕ) (root : Body) (f : Focus Act) (w : World) (d : Part) → Closed K proper d → Sound K proper d → Known K proper d → Inside d
+      → TurnFits K (suc n) d f → TurnTyped K f w → Stepped (stepped K n root f w)
   turn_typed n root f w d c h k i t x =
       let m = stepped K n root f w in
       let y = tested w x.values in
@@ -118,7 +118,8 @@ module _ (K : Kernel) (proper : is_proper K ≡ true) where
       let a = unplugged K f y.was (subst (tree_ready K) (sym y.plugs) h.trails) in
       record { values = h.values; ranges = (ints.unplugged f y.was (subst tree_int (sym y.plugs) h.ranges)).0; trails = a.0; turn = picked_ready K n y.was (leaf f) y.picked a.1 }
 
-  chosen_typed : (n : ℕ) (r : Residual) (w : World) (o : Option (Focus Act)) → FoundIn Act (runs_at n) r o → TreeTyped K r w → StoresTyped K (chosen_at n o r w)
+  chosen_typed : (n : ℕ) (r : Residual) (w : World) (o : Option (Focus Act)) → FoundIn Act (runs_at n) r o → TreeTyped K r w
+      → StoresTyped K (chosen_at n o r w)
   chosen_typed n r w None y h = closed_typed n r w h
   chosen_typed n r w (Some f) y h = let a = found_typed n r w f y h in record { values = a.values; ranges = a.ranges; trails = a.trails; turn = a.turn }
 

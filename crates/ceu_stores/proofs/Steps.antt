@@ -1,22 +1,20 @@
 -- One step of a trail keeps stores well-typed.
-use Rattle.std.proofs.Common.{◌≡◌, refl, sym, ap, ◌∙◌, subst, ℕ, suc, ◌+◌, ℤ, pos, Bool, true, false, if◌then◌else◌, ◌==◌, List, [], ◌∷◌, Option, Some, None, eqb-true}
-use Rattle.std.proofs.lemmas.Bool.{false≢true}
+use Rattle.std.proofs.Common.{◌≡◌, refl, sym, subst, ℕ, suc, ◌+◌, ℤ, pos, Bool, true, false, if◌then◌else◌, ◌==◌, List, [], ◌∷◌, Option, Some, None, eqb-true}
 use Rattle.ceu_base.specs.declared.kinds.Mark.TheVariants as mark
 use Rattle.ceu_base.specs.Values.{IsValue}
 use Rattle.ceu_tree.specs.declared.kernel.Kernel.{Kernel}
 use Rattle.ceu_tree.specs.declared.kernel.KCode.{KCode}
 use Rattle.ceu_tree.specs.declared.kernel.KEvent.{KEvent}
 use Rattle.ceu_tree.specs.declared.kernel.KNode.{KNode}
-use Rattle.ceu_tree.specs.declared.kernel.KBlock.{KBlock}
-use Rattle.ceu_tree.specs.Residual.{Body, Spawned as InstanceBody, Act, Begin, Finish, Seat, Residual, Run, WaitEvent, Instances, no_instance, instance}
-use Rattle.ceu_tree.specs.Focus.{Frame, OfBlock, OfInstance, OfOpen, OfLoop, OfCall, OfPar, Focus, Here, In, plug, graft, leaf, body_of}
-use Rattle.ceu_tree.specs.World.{World, NotSet, Names, marked, set_alias, set_parameters, dead}
+use Rattle.ceu_tree.specs.Residual.{Body, Spawned as InstanceBody, Act, Begin, Finish, Residual, Run, WaitEvent, Instances, no_instance, instance}
+use Rattle.ceu_tree.specs.Focus.{Frame, OfBlock, OfInstance, OfOpen, OfLoop, OfCall, OfPar, Focus, Here, In, leaf, body_of}
+use Rattle.ceu_tree.specs.World.{World, NotSet, Names, marked, set_alias, dead}
 use Rattle.ceu_tree.specs.Abort.{aborted}
 use Rattle.ceu_tree.specs.Wake.{by_event}
 use Rattle.ceu_tree.specs.Leaf as does
 use Rattle.ceu_tree.specs.Leaf.{Does, target, acted, code_at}
-use Rattle.ceu_tree.specs.Around.{Outcome, Goes, Rests, Raises, Fails, Past, Registers, AtBlockEnd, AtLoopHead, Ends, Leaves, Moved, moved, up, taken, answered}
-use Rattle.ceu_tree.specs.Step.{event_code, free_place, seated, spawned_at, spawned, unseated, unseat_frame, unseat, killed_in, kill_frame, killed, does_in, stepped}
+use Rattle.ceu_tree.specs.Around.{Outcome, Goes, Rests, Raises, Fails, Past, Registers, AtBlockEnd, AtLoopHead, Ends, Leaves, Moved, up, taken, answered}
+use Rattle.ceu_tree.specs.Step.{event_code, free_place, spawned_at, spawned, unseated, unseat_frame, unseat, killed_in, kill_frame, killed, does_in, stepped}
 use Rattle.ceu_tree.specs.Proper.{Scope, event_at, is_proper}
 use Rattle.ceu_legal.specs.Shape.{Part, ABlock, AStatement, AnEnd, AllFit, none_lives, one_lives, FrameFits, around_statement, around_end, around_instance, around_part, around_turn, around_call, around_branch, Around, nothing_around, one_around, TurnFits, Comes}
 use Rattle.ceu_legal.proofs.Static.{code_static}
@@ -34,7 +32,7 @@ use Rattle.ceu_stores.specs.Ready.{act_ready, tree_ready, frames_ready}
 use Rattle.ceu_stores.proofs.Trees.{graft_leaf, plugged, grafted, woken_ready, seated_ready, unseat_ready}
 use Rattle.ceu_stores.proofs.Values.{takes_zero, Given, aliases_typed, params_typed}
 use Rattle.ceu_stores.proofs.Aborts.{Gone}
-use Rattle.ceu_stores.proofs.Exits.{Suits, Good, up_good}
+use Rattle.ceu_stores.proofs.Exits.{Suits, up_good}
 use Rattle.ceu_stores.proofs.Leaf.{DoesSuit, acted_good}
 
 -- ---- ranges, where an instance is gone
@@ -73,7 +71,8 @@ module _ (K : Kernel) where
   outcome_ready (Raises r) = tree_ready K r
   outcome_ready x = Unit {0}
 
-  by_event_ready : (level event : ℕ) (v : ℤ) → ((x : KEvent) → event_at K event K.events ≡ Some x → IsValue x.ty v) → (r : Residual) → tree_ready K r → tree_ready K (by_event level event v r)
+  by_event_ready : (level event : ℕ) (v : ℤ) → ((x : KEvent) → event_at K event K.events ≡ Some x → IsValue x.ty v) → (r : Residual)
+      → tree_ready K r → tree_ready K (by_event level event v r)
   unfolding tree_ready
   by_event_ready level event v h (WaitEvent e s) k = go (e == event) refl
     where
@@ -87,7 +86,8 @@ module _ (K : Kernel) where
       pub ready : outcome_ready m.outcome
       pub typed : AllTyped K proper m.world
 
-    taken_ready : (n : ℕ) (f : Focus Act) (x : Outcome) (d : Part) → Closed K proper d → Comes K n d x → Suits K proper d x → outcome_ready (taken f x)
+    taken_ready : (n : ℕ) (f : Focus Act) (x : Outcome) (d : Part) → Closed K proper d → Comes K n d x → Suits K proper d x
+        → outcome_ready (taken f x)
     taken_ready n f (Goes g) (ABlock false sc c) q k h = h
     taken_ready n f (Rests r) (ABlock false sc c) q k h = h
     taken_ready n f (Raises r) (ABlock false sc c) q k h = h
@@ -103,7 +103,8 @@ module _ (K : Kernel) where
     killed_in_typed k none_lives w x = x
     killed_in_typed k (one_lives {seat = seat} {r = r} {more = more} i p e fit rest) w x = go (seat.number == k) refl (killed_in_typed k rest w x)
       where
-        go : (b : Bool) → (seat.number == k) ≡ b → AllTyped K proper (killed_in k more w) → AllTyped K proper (if b then dead k (aborted r (InstanceBody k) w) else killed_in k more w)
+        go : (b : Bool) → (seat.number == k) ≡ b → AllTyped K proper (killed_in k more w)
+            → AllTyped K proper (if b then dead k (aborted r (InstanceBody k) w) else killed_in k more w)
         go true q y = dead_typed K proper k (aborted r (InstanceBody k) w) (aborted_typed K proper fit (code_static K seat.code i proper e) (code_known K proper seat.code i e) (InstanceBody k) w x)
         go false q y = y
 
@@ -143,7 +144,8 @@ module _ (K : Kernel) where
     head_suit AnEnd = tt
 
     module _ (n : ℕ) (root : Body) (d : Part) (closed : Closed K proper d) (ok : Sound K proper d) (known : Known K proper d) (inside : Inside d) where
-      answered_whole : {e : Part} (f : Focus Act) (x : Outcome) (w : World) → Around K (suc n) Act f d e → Comes K n e x → Suits K proper e x → frames_ready K f → focus_int f → AllTyped K proper w
+      answered_whole : {e : Part} (f : Focus Act) (x : Outcome) (w : World) → Around K (suc n) Act f d e → Comes K n e x → Suits K proper e x
+          → frames_ready K f → focus_int f → AllTyped K proper w
           → Whole (answered root f x w)
       answered_whole {e = e} f x w a c s r t y =
           let m = up root f x w in
@@ -151,7 +153,8 @@ module _ (K : Kernel) where
           record { ready = taken_ready n f m.outcome d closed (up_fits K proper n root f x w d e ok a c) z.suits; typed = z.typed }
 
       module _ (e : Part) (f : Focus Act) (a : Around K (suc n) Act f d e) (r : frames_ready K f) (t : focus_int f) where
-        spawned_whole : (body : Body) (s : KNode) (c : KCode) (code pool : ℕ) (alias : Option ℕ) (vs : List ℤ) (w : World) → Comes K n e Past → Suits K proper e Past → code_at code K.codes ≡ Some c → Given c.params vs
+        spawned_whole : (body : Body) (s : KNode) (c : KCode) (code pool : ℕ) (alias : Option ℕ) (vs : List ℤ) (w : World) → Comes K n e Past
+            → Suits K proper e Past → code_at code K.codes ≡ Some c → Given c.params vs
             → AllTyped K proper w → Whole (spawned n root body f s c code pool alias vs w)
         unfolding tree_ready
         spawned_whole body s c code pool alias vs w past su there g y = go (free_place pool f)
@@ -172,7 +175,8 @@ module _ (K : Kernel) where
                   (aliases_typed K proper body alias (Names (w.given + 1)) (record w { given = w.given + 1; living = (w.given + 1) ∷ w.living }) tt y);
             })
 
-        does_whole : (body : Body) (x : Does) (w : World) → DoesFit K proper n e x → DoesSuit K proper e x → AllTyped K proper w → Whole (does_in K n root body f x w)
+        does_whole : (body : Body) (x : Does) (w : World) → DoesFit K proper n e x → DoesSuit K proper e x → AllTyped K proper w
+            → Whole (does_in K n root body f x w)
         unfolding tree_ready
         does_whole body (does.Opens x) w c s y = record { ready = (grafted K f x r s.0, subst act_ready (sym (graft_leaf f x)) s.1); typed = y }
         does_whole body (does.Waits q) w c s y = record { ready = plugged K f q r s; typed = y }
@@ -188,7 +192,8 @@ module _ (K : Kernel) where
             answered_whole (unseat j f) Past (killed j f w) (unseated_around K proper (suc n) j a) c (no_suit e) (unseat_ready K j f r) (unseat_fine j f t) (killed_typed j a w y)
         does_whole body (does.Fails z) w c s y = record { ready = tt; typed = y }
 
-      pub stepped_whole : (f : Focus Act) (w : World) → TurnFits K (suc n) d f → frames_ready K f → act_ready (leaf f) → focus_int f → AllTyped K proper w → Whole (stepped K n root f w)
+      pub stepped_whole : (f : Focus Act) (w : World) → TurnFits K (suc n) d f → frames_ready K f → act_ready (leaf f) → focus_int f
+          → AllTyped K proper w → Whole (stepped K n root f w)
       unfolding stepped
       stepped_whole f w z r l t y =
           let m = acted K n (body_of f root) (leaf f) w in

@@ -1,5 +1,5 @@
 -- Trees and frames whose trails go on with values that their targets take.
-use Rattle.std.proofs.Common.{◌≡◌, refl, sym, ap, ◌∙◌, subst, ℕ, nat_lt, Bool, true, false, if◌then◌else◌, ◌==◌, Option, Some, None}
+use Rattle.std.proofs.Common.{◌≡◌, refl, ap, ℕ, nat_lt, Bool, true, false, if◌then◌else◌, ◌==◌, Option, Some, None}
 use Rattle.ceu_tree.specs.declared.kernel.Kernel.{Kernel}
 use Rattle.ceu_tree.specs.declared.kernel.KBlock.{out-KBlock}
 use Rattle.ceu_tree.specs.Residual.{Act, AtEnd, Seat, Residual, Over, Run, WaitInput, WaitTime, WaitEvent, WaitForever, InAsync, Block, Open, Loop, Call, Par, Branches, no_branch, branch, Instances, no_instance, instance}
@@ -61,7 +61,8 @@ module _ (K : Kernel) where
 
   -- ---- out of a tree
 
-  split_joined : (xs : Branches) (r : Residual) (ys : Branches) → each_ready K (join xs (branch r ys)) → each_ready K xs × tree_ready K r × each_ready K ys
+  split_joined : (xs : Branches) (r : Residual) (ys : Branches) → each_ready K (join xs (branch r ys))
+      → each_ready K xs × tree_ready K r × each_ready K ys
   unfolding tree_ready
   split_joined no_branch r ys h = (tt, h.0, h.1)
   split_joined (branch q more) r ys h = let a = split_joined more r ys h.1 in ((h.0, a.0), a.1, a.2)
@@ -119,7 +120,8 @@ module _ (K : Kernel) where
     body_ready (Here a) r h k = leaves_ready r k
     body_ready (In fr f) r h k = go (has_body (In fr f)) (body_ready f r h.1 k)
       where
-        go : (t : Bool) → tree_ready K (each_in_body g f r) → tree_ready K (if t then fill fr (each_in_body g f r) else each_leaf g (plug (In fr f) r))
+        go : (t : Bool) → tree_ready K (each_in_body g f r)
+            → tree_ready K (if t then fill fr (each_in_body g f r) else each_leaf g (plug (In fr f) r))
         go true a = filled fr (each_in_body g f r) h.0 a
         go false a = leaves_ready (plug (In fr f) r) (filled fr (plug f r) h.0 (plugged f r h.1 k))
 
@@ -134,11 +136,13 @@ module _ (K : Kernel) where
   with_ready seat r no_instance h k = (h, tt)
   with_ready seat r (instance other q more) h k = go (nat_lt seat.pool other.pool) (with_ready seat r more h k.1)
     where
-      go : (b : Bool) → all_ready K (with_instance seat r more) → all_ready K (if b then instance seat r (instance other q more) else instance other q (with_instance seat r more))
+      go : (b : Bool) → all_ready K (with_instance seat r more)
+          → all_ready K (if b then instance seat r (instance other q more) else instance other q (with_instance seat r more))
       go true x = (h, k)
       go false x = (k.0, x)
 
-  seated_if_ready : (o : Option ℕ) (seat : Seat) (r : Residual) (all : Instances) → tree_ready K r → all_ready K all → all_ready K (seated_if o seat r all)
+  seated_if_ready : (o : Option ℕ) (seat : Seat) (r : Residual) (all : Instances) → tree_ready K r → all_ready K all
+      → all_ready K (seated_if o seat r all)
   seated_if_ready None seat r all h k = k
   seated_if_ready (Some n) seat r all h k = with_ready seat r all h k
 

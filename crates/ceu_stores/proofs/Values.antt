@@ -1,9 +1,8 @@
 -- What is written is of the type of its slot: aliases, parameters and the variables of loops.
-use Rattle.std.proofs.Common.{◌≡◌, refl, sym, ap, ◌∙◌, subst, ℕ, ℤ, pos, Bool, true, false, inl, inr, List, [], ◌∷◌, Option, Some, None, Result, Ok, Err, arith}
+use Rattle.std.proofs.Common.{◌≡◌, refl, ap, ◌∙◌, subst, ℕ, ℤ, pos, true, inl, inr, List, [], ◌∷◌, Option, Some, None, Result, Ok, Err, arith}
 use Rattle.ceu_base.specs.declared.kinds.Pos.{Pos}
 use Rattle.ceu_base.specs.declared.kinds.Fault.{Fault}
 use Rattle.ceu_base.specs.declared.kinds.Ty.{Ty}
-use Rattle.ceu_base.specs.declared.kinds.Ty.TheVariants as ty
 use Rattle.ceu_base.specs.Values.{IsValue}
 use Rattle.ceu_tree.specs.declared.kernel.Kernel.{Kernel}
 use Rattle.ceu_tree.specs.declared.kernel.KDecl.{KDecl}
@@ -30,6 +29,9 @@ use Rattle.ceu_stores.specs.Ready.{takes_value}
 pub takes_zero : (o : Option Loc) → takes_value o (pos 0)
 takes_zero None = tt
 takes_zero (Some l) = zero_value l.ty
+
+pub ok_is : (u v : ℤ) → (let a : Answer = Ok u in a ≡ Ok v) → u ≡ v
+ok_is u v e = ap (λ a. elim a [ Ok z ↦ z | Err y ↦ u ]) e
 
 -- an alias's cell says nothing of types
 abbrev names_only : Cell → Type 0
@@ -65,7 +67,8 @@ module _ (K : Kernel) (proper : is_proper K ≡ true) where
   pub unset_typed : (body : Body) (slot : ℕ) (w : World) → AllTyped K proper w → AllTyped K proper (set body slot NotSet w)
   unset_typed body slot w x = put_typed body slot NotSet w (alias_typed (kind_at slot (rows K)) NotSet tt) x
 
-  pub aliases_typed : (body : Body) (o : Option ℕ) (c : Cell) (w : World) → names_only c → AllTyped K proper w → AllTyped K proper (set_alias body o c w)
+  pub aliases_typed : (body : Body) (o : Option ℕ) (c : Cell) (w : World) → names_only c → AllTyped K proper w
+      → AllTyped K proper (set_alias body o c w)
   aliases_typed body None c w h x = x
   aliases_typed body (Some a) c w h x = put_typed body a c w (alias_typed (kind_at a (rows K)) c h) x
 
@@ -86,7 +89,8 @@ module _ (K : Kernel) (proper : is_proper K ≡ true) where
   ok_same : (xs ys : List ℤ) → (let a : Result (List ℤ) (Fault × Pos) = Ok xs in a ≡ Ok ys) → xs ≡ ys
   ok_same xs ys e = ap (λ o. elim o [ Ok zs ↦ zs | Err z ↦ xs ]) e
 
-  pub arguments_given : (body : Body) (w : World) (ds : List KDecl) (es : List KExp) (vs : List ℤ) → arguments_typed K body w ds es → values_of es body w ≡ Ok vs → Given ds vs
+  pub arguments_given : (body : Body) (w : World) (ds : List KDecl) (es : List KExp) (vs : List ℤ) → arguments_typed K body w ds es
+      → values_of es body w ≡ Ok vs → Given ds vs
   arguments_given body w [] es vs h q = tt
   arguments_given body w (d ∷ ds) [] vs h q = subst (Given (d ∷ ds)) (ok_same [] vs q) tt
   arguments_given body w (d ∷ ds) (e ∷ es) vs h q = go (value_of e body w) refl (values_of es body w) (λ us z. arguments_given body w ds es us h.1 z) q

@@ -1,5 +1,5 @@
 -- Trails that go on with values of the types that their targets take (this project's own).
-use Rattle.std.specs.Prelude.{◌≡◌, ℕ, ℤ, Option, Some, None}
+use Rattle.std.specs.Prelude.{◌≡◌, ℤ, Option, Some, None}
 use Rattle.ceu_base.specs.declared.kinds.Ty.{Ty}
 use Rattle.ceu_base.specs.declared.kinds.Ty.TheVariants as ty
 use Rattle.ceu_base.specs.Values.{IsValue}
