@@ -1,21 +1,17 @@
 -- The image that is made of a kernel of one trail is a compiled one.
-use Rattle.std.proofs.Common.{◌≡◌, refl, ℕ, ◌+◌, ◌*◌, ◌≤◌, false, List, length, arith}
+use Rattle.std.proofs.Common.{◌≡◌, refl, ℕ, ◌+◌, ◌*◌, false, List, length, arith}
 use Rattle.ceu_asm.specs.Lines.{code_size}
 use Rattle.ceu_asm.proofs.Following.{length-assembled}
-use Rattle.ceu_code.specs.declared.image.Image.{Image}
 use Rattle.ceu_isa.specs.Layout.{end_of}
 use Rattle.ceu_placed.specs.Fits.{PlanFits}
 use Rattle.ceu_placed.proofs.Few.{short_code}
 use Rattle.ceu_placed.proofs.Operands.{shape_placed, made_plans_fit}
 use Rattle.ceu_shape.specs.Plans.{Plan}
 use Rattle.ceu_shape.specs.Shape.{shape, shape_lines}
-use Rattle.ceu_single.specs.Single.{Single}
-use Rattle.ceu_slots.specs.Plans.{Planned, HasPlaces}
-use Rattle.ceu_trail.specs.Compiled.{Compiled}
+use Rattle.ceu_slots.specs.Plans.{Planned}
 use Rattle.ceu_tree.specs.declared.kernel.Kernel.{Kernel}
 use Rattle.ceu_tree.specs.Depth.{depth}
 use Rattle.ceu_tree.specs.Needs.{memory, gates, slots}
-use Rattle.ceu_tree.specs.Proper.{Proper}
 use Rattle.ceu_images.specs.Laws.{IsSmall, ArePlans, joined, ImagesAreCompiled}
 
 memory_is : (K : Kernel) → memory false K ≡ 16 + 8 * depth K + 19 * gates K + slots false K

@@ -1,5 +1,5 @@
 -- From the machine that a run leaves to the one that the whole does.
-use Rattle.std.proofs.Common.{◌≡◌, sym, subst, inl, inr, ℕ, List, Option, Some, None, Result, Ok, Err}
+use Rattle.std.proofs.Common.{◌≡◌, sym, subst, inl, inr, ℕ, List, Option, Some, None, Ok, Err}
 use Rattle.std.specs.Prelude.{IfSome, MatchOption, String}
 use Rattle.std.specs.Global.{Vec}
 use Rattle.ceu_code.specs.declared.image.Image.{Image}
@@ -86,9 +86,9 @@ with_files None file text bytes script s e is h = tt
 with_files (Some fs) file text bytes None s e is h = tt
 with_files (Some fs) file text bytes (Some b) s e is h = (text, is, subst (λ t. IsMachineOf t b s) e h)
 
-pub file_left : {mode : Mode} {status : Status} {file bytes : List ℕ} {files : Option Files} {s s' : ℕ} {text : Vec ℕ} (script : Option (List ℕ)) (left : Option Seen)
+pub file_left : {file bytes : List ℕ} {files : Option Files} {s s' : ℕ} {text : Vec ℕ} (mode : Mode) (status : Status) (script : Option (List ℕ)) (left : Option Seen)
     → IsFetch files file s s' (Ok text) → bytes ≡ text.items → IsTextLeft mode status bytes script left → IsFileLeft mode status file files script left
-file_left {mode = mode} {status = status} {file = file} {bytes = bytes} {files = files} {text = text} script left fetched e h =
+file_left {file = file} {bytes = bytes} {files = files} {text = text} mode status script left fetched e h =
     run_map mode status (λ m. IfSome script (λ b. IsMachineOf bytes b m)) (λ m. IfSome files (λ fs. IfSome script (λ b. (t : List ℕ) × (fs file ≡ Some t) × IsMachineOf t b m))) left
     (λ m. with_files files file text.items bytes script m e fetched.is.0) h
 
