@@ -1,0 +1,16 @@
+pub mod Grips
+pub mod Trees
+pub mod Places
+pub mod Bounds
+pub mod Settled
+pub mod Aborts
+pub mod Leaf
+pub mod Up
+pub mod Steps
+pub mod Reactions
+pub mod Commands
+pub mod Turns
+pub mod Slots
+pub mod Runs
+pub mod Namings
+pub mod Outer

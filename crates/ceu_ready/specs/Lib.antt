@@ -1,0 +1,4 @@
+pub mod Needed
+pub mod Slots
+pub mod Outer
+pub mod Laws
