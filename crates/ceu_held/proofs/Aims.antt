@@ -29,7 +29,7 @@ below_more : (m n : ℕ) (aims : List Aim) → m ≤ n → below m aims → belo
 below_more m n [] l h = tt
 below_more m n (a ∷ as') l h = (let z = h.0 in omega (arith, z, l), below_more m n as' l h.1)
 
-below_aimed : (n : ℕ) (aims : List Aim) → below n aims → aimed n aims ≡ false
+pub below_aimed : (n : ℕ) (aims : List Aim) → below n aims → aimed n aims ≡ false
 below_aimed n [] h = refl
 below_aimed n (a ∷ as') h = go (n == aim_node a) refl (below_aimed n as' h.1)
   where
@@ -64,13 +64,13 @@ Low (ABlock turn sc b) = below ((out-KBlock b).node + 1) sc.aims
 Low (AStatement sc s) = below s.node sc.aims
 Low AnEnd = Unit {0}
 
-record Inside (e : Part) : Type 0 where
-  ground : Ground
-  on : On e ground
-  low : Low e
+pub record Inside (e : Part) : Type 0 where
+  pub ground : Ground
+  pub on : On e ground
+  pub low : Low e
 
 module _ (K : Kernel) (proper : is_proper K ≡ true) where
-  part_low : (sc : Scope) (s : KNode) (layer : Layer) (b : KBlock) (g : Ground) → out-KStmt s.stmt ≡ layer → opens_part layer b → Numbered (stmt_slots s.stmt) (s.node ∷ stmt_nodes s.stmt) g → below s.node sc.aims
+  pub part_low : (sc : Scope) (s : KNode) (layer : Layer) (b : KBlock) (g : Ground) → out-KStmt s.stmt ≡ layer → opens_part layer b → Numbered (stmt_slots s.stmt) (s.node ∷ stmt_nodes s.stmt) g → below s.node sc.aims
       → below (out-KBlock b).node (part_scope K sc s.node layer).aims
   part_low sc s (KStmt-F.Do t c) b g e o on h = go t
     where
@@ -109,7 +109,7 @@ module _ (K : Kernel) (proper : is_proper K ≡ true) where
       go (turns.Times slot n) = strict
       go (turns.Range i next end open_a a c open_b) = strict
 
-  frame_inside : {t : ℕ} {fr : Frame} {d e : Part} → FrameFits K t fr d e → (g : Ground) → On d g → Low d → Inside e
+  pub frame_inside : {t : ℕ} {fr : Frame} {d e : Part} → FrameFits K t fr d e → (g : Ground) → On d g → Low d → Inside e
   frame_inside (around_statement {sc = sc} {b = b} {rest = rest} {s = s} done e f fit) g on h =
       let i = list_ground b done s rest g e on in
       record { ground = i.ground; on = i.on; low = below_more ((out-KBlock b).node + 1) s.node sc.aims (above_block b done s rest g e on) h }

@@ -118,7 +118,7 @@ module _ (K : Kernel) (proper : is_proper K ≡ true) (sc : Scope) (known : Know
   stmt_starts n st h = tt
 
 module _ (K : Kernel) (proper : is_proper K ≡ true) where
-  at_start : (d : Part) (s : KNode) (body : Body) (w : World) → ActFits d (Start s) → Sound K proper d → Known K proper d → AllTyped K proper w
+  pub at_start : (d : Part) (s : KNode) (body : Body) (w : World) → ActFits d (Start s) → Sound K proper d → Known K proper d → AllTyped K proper w
       → start_typed K body w (out-KStmt s.stmt)
   at_start d s body w (starts {sc = sc}) h i x = stmt_starts K proper sc i.1 body w x s.node s.stmt h
 

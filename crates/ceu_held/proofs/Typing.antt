@@ -183,16 +183,16 @@ module _ (K : Kernel) (proper : is_proper K ≡ true) where
 
   -- ---- what is forgotten
 
-  forget_body_typed : (b : Body) (w : World) → AllTyped w → AllTyped (forget_body b w)
+  pub forget_body_typed : (b : Body) (w : World) → AllTyped w → AllTyped (forget_body b w)
   forget_body_typed b w x = lie_filter typed_count typed_count (λ h. not (same_body b h.body)) (λ h e n. n) w.values x
 
-  dead_typed : (n : ℕ) (w : World) → AllTyped w → AllTyped (dead n w)
+  pub dead_typed : (n : ℕ) (w : World) → AllTyped w → AllTyped (dead n w)
   dead_typed n w x = lie_filter typed_count typed_count (λ h. not (same_body (Spawned n) h.body)) (λ h e n. n) w.values x
 
   forget_typed : (b : Body) (s : ℕ) (w : World) → AllTyped w → AllTyped (forget b s w)
   forget_typed b s w x = lie_filter typed_count typed_count (λ h. not (is_at b s h)) (λ h e n. n) w.values x
 
-  forget_declared_typed : (b : Body) (ds : List KDecl) (w : World) → AllTyped w → AllTyped (forget_declared b ds w)
+  pub forget_declared_typed : (b : Body) (ds : List KDecl) (w : World) → AllTyped w → AllTyped (forget_declared b ds w)
   forget_declared_typed b [] w x = x
   forget_declared_typed b (d ∷ ds) w x = forget_declared_typed b ds (forget b d.slot w) (forget_typed b d.slot w x)
 
@@ -201,7 +201,7 @@ module _ (K : Kernel) (proper : is_proper K ≡ true) where
   forget_turns_typed b turns.Free w x = x
   forget_turns_typed b (turns.Times slot n) w x = x
 
-  forget_loop_typed : (b : Body) (s : KStmt) (w : World) → AllTyped w → AllTyped (forget_loop b s w)
+  pub forget_loop_typed : (b : Body) (s : KStmt) (w : World) → AllTyped w → AllTyped (forget_loop b s w)
   forget_loop_typed b (kernel.Loop k c) w x = forget_turns_typed b k w x
   forget_loop_typed b _ w x = x
 
@@ -275,7 +275,7 @@ module _ (K : Kernel) (proper : is_proper K ≡ true) where
     aborted_typed (in_par {sc = sc} {s = s} k slot bs e q more) h i body w x =
         each_typed more (layer_of K proper sc s (KStmt-F.Par k slot bs) e h).1 (parts_known K proper (pools_seen sc.seen) s (KStmt-F.Par k slot bs) e i.0) i.1 body w x
 
-    each_typed : {t : ℕ} {sc : Scope} {k : ParKind} {bs : List KBlock} {rs : Branches} → EachFits K t sc k bs rs → each_fine K (names_of K) sc bs
+    pub each_typed : {t : ℕ} {sc : Scope} {k : ParKind} {bs : List KBlock} {rs : Branches} → EachFits K t sc k bs rs → each_fine K (names_of K) sc bs
         → Incl (blocks_all_rows (pools_seen sc.seen) bs) (rows K) → KnownSeen K proper sc.seen
         → (body : Body) (w : World) → AllTyped w → AllTyped (branches_aborted rs body w)
     each_typed no_more h i j body w x = x
@@ -284,7 +284,7 @@ module _ (K : Kernel) (proper : is_proper K ≡ true) where
         aborted_typed fit h.0 (incl_left (block_rows (pools_seen sc.seen) b) (blocks_all_rows (pools_seen sc.seen) bs) (rows K) i, j) body (branches_aborted more body w)
         (each_typed rest h.1 (incl_right (block_rows (pools_seen sc.seen) b) (blocks_all_rows (pools_seen sc.seen) bs) (rows K) i) j body w x)
 
-    all_typed_kept : {t : ℕ} {sc : Scope} {all : Instances} → AllFit K t sc all → (w : World) → AllTyped w → AllTyped (instances_aborted all w)
+    pub all_typed_kept : {t : ℕ} {sc : Scope} {all : Instances} → AllFit K t sc all → (w : World) → AllTyped w → AllTyped (instances_aborted all w)
     all_typed_kept none_lives w x = x
     all_typed_kept (one_lives {seat = seat} {r = r} {more = more} k p e fit rest) w x =
         let w1 = instances_aborted more w in
