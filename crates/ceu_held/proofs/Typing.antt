@@ -129,7 +129,7 @@ module _ (K : Kernel) (proper : is_proper K ≡ true) where
   value_cell (Some (IsPool c)) t v e h = absurd (cc)
   value_cell (Some (IsAlias c ps)) t v e h = absurd (cc)
 
-  look_typed : (body : Body) (slot : ℕ) (c : Cell) (hs : List Held) → Lie typed_count hs → look body slot hs ≡ Some c → cell_typed (kind_at slot (rows K)) c ≡ true
+  pub look_typed : (body : Body) (slot : ℕ) (c : Cell) (hs : List Held) → Lie typed_count hs → look body slot hs ≡ Some c → cell_typed (kind_at slot (rows K)) c ≡ true
   look_typed body slot c [] l e = absurd (cc)
   look_typed body slot c (h ∷ hs) l e = go (is_at body slot h) refl e (look_typed body slot c hs l.1)
     where

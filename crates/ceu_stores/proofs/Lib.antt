@@ -7,4 +7,5 @@ pub mod Leaf
 pub mod Steps
 pub mod Reactions
 pub mod Commands
+pub mod Cells
 pub mod Runs

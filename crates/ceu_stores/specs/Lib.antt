@@ -1,3 +1,4 @@
 pub mod Ready
 pub mod Stores
+pub mod Cells
 pub mod Laws

@@ -8,6 +8,8 @@ ghost use Rattle.ceu_stores.specs.Laws.{
   BootTyped,
   CommandKeepsTyped,
   ReactionTyped,
+  RunCellsLegal,
+  RunLoopsLegal,
   RunTyped,
   StepTyped,
 };
@@ -36,4 +38,14 @@ pub fn command_typed()
 /// So it is in each configuration of every run of a proper kernel, where inputs have values of their types.
 pub fn run_typed()
     ensures { RunTyped }
+{}
+
+/// Where such a run waits, each cell that an open variable, alias or parameter holds is as a legal configuration has it,
+pub fn run_cells_legal()
+    ensures { RunCellsLegal }
+{}
+
+/// and so is the counter of each open loop.
+pub fn run_loops_legal()
+    ensures { RunLoopsLegal }
 {}
