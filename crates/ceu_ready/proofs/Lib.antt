@@ -14,3 +14,5 @@ pub mod Slots
 pub mod Runs
 pub mod Namings
 pub mod Outer
+pub mod OuterSteps
+pub mod OuterRuns

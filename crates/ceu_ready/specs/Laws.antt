@@ -1,5 +1,6 @@
 -- The laws on the slots that have a value in the configurations of a proper kernel.
 use Rattle.std.specs.Prelude.{◌≡◌, ◌≤◌, ℕ, suc, true, false, List, [], Some}
+use Rattle.std.specs.List.{list_all}
 use Rattle.ceu_tree.specs.declared.command.Command.{Command}
 use Rattle.ceu_tree.specs.declared.kernel.Kernel.{Kernel}
 use Rattle.ceu_tree.specs.declared.kernel.KNode.{KNode}
@@ -7,7 +8,7 @@ use Rattle.ceu_tree.specs.declared.kernel.KBlock.{out-KBlock}
 use Rattle.ceu_tree.specs.Residual.{Program, Act, Start, Residual, Over}
 use Rattle.ceu_tree.specs.Focus.{Focus, plug, leaf, body_of}
 use Rattle.ceu_tree.specs.World.{World}
-use Rattle.ceu_tree.specs.Legal.{is_program_variable, program_done}
+use Rattle.ceu_tree.specs.Legal.{is_program_variable, program_done, outer_set, seats}
 use Rattle.ceu_tree.specs.Mentions.{count_of, stmt_names}
 use Rattle.ceu_tree.specs.Proper.{Proper}
 use Rattle.ceu_tree.specs.Run.{Config, Turning, Waiting, booted, next, steps, done, run}
@@ -17,7 +18,7 @@ use Rattle.ceu_values.specs.Ready.{act_has}
 use Rattle.ceu_living.specs.Instances.{InstancesStand}
 use Rattle.ceu_ready.specs.Needed.{Stocked}
 use Rattle.ceu_ready.specs.Slots.{slots_set}
-use Rattle.ceu_ready.specs.Outer.{code_set, act_code, OuterSet}
+use Rattle.ceu_ready.specs.Outer.{code_set, act_code, OuterSet, OuterStands}
 
 abbrev pub BootStocked : Type 0
 BootStocked = (K : Kernel) → Stocked K (booted K)
@@ -65,3 +66,13 @@ abbrev pub OuterReads : Type 0
 OuterReads =
     (K : Kernel) (n slot : ℕ) (f : Focus Act) (s : KNode) (w : World) → Proper K → TurnFits K (suc n) (program_part K) f → Stocked K (Turning n f w) → OuterSet K (plug f Over) → leaf f ≡ Start s
     → is_program_variable slot (out-KBlock K.body).decls ≡ true → 1 ≤ count_of slot (stmt_names false [] s.stmt) → has Program slot w ≡ true
+
+abbrev pub StepOuter : Type 0
+StepOuter = (K : Kernel) (c : Config) → Proper K → ConfigFits K c → OuterStands K c → OuterStands K (next K c)
+
+abbrev pub RunOuter : Type 0
+RunOuter = (K : Kernel) (n : ℕ) (xs : List Command) → Proper K → OuterStands K (run K n xs)
+
+-- in the words of legality: where a run waits, and an instance lives, the program's variables that its code names are set
+abbrev pub RunOuterLegal : Type 0
+RunOuterLegal = (K : Kernel) (n : ℕ) (xs : List Command) (r : Residual) (w : World) → Proper K → run K n xs ≡ Waiting r w → list_all (outer_set K r) (seats r Program) ≡ true

@@ -11,8 +11,11 @@ ghost use Rattle.ceu_ready.specs.Laws.{
   CommandStocked,
   OuterReads,
   ReactionStocked,
+  RunOuter,
+  RunOuterLegal,
   RunSetLegal,
   RunStocked,
+  StepOuter,
   StepStocked,
   TurnReads,
 };
@@ -71,4 +74,19 @@ pub fn code_outer_set()
 /// So a statement that starts names by `outer` none of the program's variables that has no value.
 pub fn outer_reads()
     ensures { OuterReads }
+{}
+
+/// A step keeps those variables set that the code of each instance names,
+pub fn step_outer()
+    ensures { StepOuter }
+{}
+
+/// and so it is in each configuration of every run of a proper kernel.
+pub fn run_outer()
+    ensures { RunOuter }
+{}
+
+/// Where a run waits, the program's variables that the code of an instance names are set, as a legal configuration has it.
+pub fn run_outer_legal()
+    ensures { RunOuterLegal }
 {}
