@@ -1,0 +1,5 @@
+pub mod Ways
+pub mod Due
+pub mod Pays
+pub mod Starts
+pub mod Laws
