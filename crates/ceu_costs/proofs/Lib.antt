@@ -8,3 +8,5 @@ pub mod Through
 pub mod Opened
 pub mod Started
 pub mod Turns
+pub mod Places
+pub mod Runs
