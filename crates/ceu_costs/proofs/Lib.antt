@@ -1,0 +1,12 @@
+pub mod WayLists
+pub mod Cost
+pub mod Frames
+pub mod LoopSteps
+pub mod Steps
+pub mod Rejoined
+pub mod Through
+pub mod Opened
+pub mod Started
+pub mod Turns
+pub mod Places
+pub mod Runs

@@ -1,0 +1,88 @@
+-- A step of a turn in the whole program, the start of a program, and the turn that begins.
+use Rattle.std.proofs.Common.{◌≡◌, refl, sym, ap, ◌∙◌, subst, ℕ, suc, Bool, true, false, List, Some, None, ◌==◌, if◌then◌else◌, eqb-true, arith}
+use Rattle.ceu_tree.specs.declared.kernel.Kernel.{Kernel}
+use Rattle.ceu_tree.specs.Residual.{Body, Program, Act, Residual, Run}
+use Rattle.ceu_tree.specs.Focus.{Focus, plug, leaf, body_of, choose}
+use Rattle.ceu_tree.specs.World.{World}
+use Rattle.ceu_tree.specs.Wake.{runs_at}
+use Rattle.ceu_tree.specs.Costs.{Cost, cost, most, bounds}
+use Rattle.ceu_tree.specs.Proper.{is_proper}
+use Rattle.ceu_tree.specs.Leaf as does
+use Rattle.ceu_tree.specs.Leaf.{Does, acted}
+use Rattle.ceu_tree.specs.Around.{Outcome, Goes, Rests, Raises, Fails, Past, Registers, AtBlockEnd, AtLoopHead, Ends, Leaves, up, taken, answered}
+use Rattle.ceu_tree.specs.Step.{does_in, stepped}
+use Rattle.ceu_tree.specs.Run.{booted}
+use Rattle.ceu_legal.specs.Shape.{Part, program_part, Around, TurnFits}
+use Rattle.ceu_legal.specs.Shape as shape
+use Rattle.ceu_laws.proofs.FocusBalance.{Found, FoundIn, choose_found}
+use Rattle.ceu_legal.proofs.LeafFits.{DoesFit, acted_fits}
+use Rattle.ceu_legal.proofs.UpFits.{up_fits}
+use Rattle.ceu_legal.proofs.StepFits.{around_sound}
+use Rattle.ceu_legal.proofs.RunFits.{root_sound, root_closed}
+use Rattle.ceu_endings.specs.Counted.{focus_counted}
+use Rattle.ceu_costs.specs.Due.{to_pay, due}
+use Rattle.ceu_costs.specs.Pays.{Within, Comes, focus_keeps}
+use Rattle.ceu_costs.specs.Starts.{act_keeps}
+use Rattle.ceu_costs.proofs.Through.{up_pays, plug_pays, graft_pays}
+use Rattle.ceu_costs.proofs.Started.{DoesPay, acted_pays}
+
+module _ (P : List Bool) (E N : List Cost) (K : Kernel) (proper : is_proper K ≡ true) (n : ℕ) where
+  -- no exit is left over
+  taken_pays : (f : Focus Act) (r : Residual) (x : Outcome) → shape.Comes K n (program_part K) x → Comes P E N n (program_part K) r x → Comes P E N n (program_part K) r (taken f x)
+  taken_pays f r (Goes g) c h = h
+  taken_pays f r (Rests q) c h = h
+  taken_pays f r (Raises q) c h = h
+  taken_pays f r (Fails e q) c h = h
+  taken_pays f r (Ends v) c h = h
+  taken_pays f r (Leaves node x) c h = absurd (root_closed K proper node c.0 c.1)
+  taken_pays f r x c h = elim c [ ]
+
+  module _ (f : Focus Act) (part : Part) (a : Around K (suc n) Act f (program_part K) part) (counted : focus_counted f) (keeps : focus_keeps P f) where
+    pub parts_pay : (x : Outcome) (w : World) → shape.Comes K n part x → Comes P E N n part (Run n (leaf f)) x → Comes P E N n (program_part K) (plug f (Run n (leaf f))) (up Program f x w).outcome
+    parts_pay x w c h = up_pays P E N n K proper Program f x w (program_part K) part (root_sound K proper) a counted keeps c h
+
+    answered_pays : (x : Outcome) (w : World) → shape.Comes K n part x → Comes P E N n part (Run n (leaf f)) x → Comes P E N n (program_part K) (plug f (Run n (leaf f))) (answered Program f x w).outcome
+    answered_pays x w c h = taken_pays f (plug f (Run n (leaf f))) (up Program f x w).outcome (up_fits K proper n Program f x w (program_part K) part (root_sound K proper) a c) (parts_pay x w c h)
+
+    does_pays : (body : Body) (x : Does) (w : World) → DoesFit K proper n part x → DoesPay P E N n part (Run n (leaf f)) x → Comes P E N n (program_part K) (plug f (Run n (leaf f))) (does_in K n Program body f x w).outcome
+    does_pays body (does.Opens x) w c h = graft_pays P E N n f x (Run n (leaf f)) (program_part K) part a h
+    does_pays body (does.Waits q) w c h = plug_pays P E N n f (cost 1 0) q (Run n (leaf f)) (program_part K) part a h
+    does_pays body does.Passes w c h = answered_pays Past w c h
+    does_pays body (does.Leaves node x) w c h = answered_pays (Leaves node x) w c h
+    does_pays body (does.Registers s) w c h = answered_pays (Registers s) w c h
+    does_pays body does.Ends w c h = answered_pays AtBlockEnd w c h
+    does_pays body does.Heads w c h = answered_pays AtLoopHead w c h
+    does_pays body (does.Emits s e v) w c h = absurd h
+    does_pays body (does.Spawns s k code pool alias vs) w c h = absurd h
+    does_pays body (does.Kills k) w c h = absurd h
+    does_pays body (does.Fails z) w c h = tt
+
+  pub step_pays : (f : Focus Act) (w : World) → TurnFits K (suc n) (program_part K) f → focus_counted f → focus_keeps P f → act_keeps P (leaf f) → Comes P E N n (program_part K) (plug f (Run n (leaf f))) (stepped K n Program f w).outcome
+  unfolding stepped
+  step_pays f w t counted keeps h =
+      let m = acted K n (body_of f Program) (leaf f) w in
+      does_pays f t.part t.around counted keeps (body_of f Program) m.does m.world
+      (acted_fits K proper n (body_of f Program) t.part (leaf f) w (around_sound K proper t.around (root_sound K proper)) t.acts)
+      (acted_pays P E N n K t.part (leaf f) (body_of f Program) w t.acts h)
+
+-- ---- the start
+
+pub boot_within : (K : Kernel) → Within (to_pay K (booted K)) (bounds K)
+unfolding due bounds
+boot_within K = most_left _ _
+  where
+    most_left : (a b : Cost) → Within a (most a b)
+    most_left a b = record { turns = omega arith; opens = omega arith }
+
+-- ---- the turn that begins
+
+runs_is : (n : ℕ) (r : Residual) (a : Act) → runs_at n r ≡ Some a → r ≡ Run n a
+runs_is n (Run m b) a h = go (m == n) refl h
+  where
+    go : (c : Bool) → (m == n) ≡ c → (if c then Some b else None) ≡ Some a → Run m b ≡ Run n a
+    go true e q = ap (λ k. Run k b) (eqb-true m n e) ∙ ap (λ o. Run n (elim o [ None ↦ b | Some x ↦ x ])) q
+    go false e q = absurd (cc)
+runs_is n r a h = absurd (cc)
+
+pub resumption_counted : (n : ℕ) (r : Residual) (f : Focus Act) → choose Act (runs_at n) r ≡ Some f → plug f (Run n (leaf f)) ≡ r
+resumption_counted n r f h = let x : Found Act (runs_at n) r f = subst (FoundIn Act (runs_at n) r) h (choose_found Act (runs_at n) r) in ap (plug f) (sym (runs_is n x.was (leaf f) x.picked)) ∙ x.plugs

@@ -1,0 +1,6 @@
+pub mod Ways
+pub mod Due
+pub mod Pays
+pub mod Starts
+pub mod Programs
+pub mod Laws

@@ -1,0 +1,5 @@
+use Rattle.ceu_lawful.proofs.Runs.{fitting}
+use Rattle.ceu_lawful.proofs.fitting_stands.Goals as goal
+
+pub returns : goal.returns
+returns c = λ K r w found p t x g j s q. fitting K r w found p t x g j s q

@@ -1,0 +1,5 @@
+use Rattle.ceu_lawful.proofs.Runs.{lawful}
+use Rattle.ceu_lawful.proofs.run_legal.Goals as goal
+
+pub returns : goal.returns
+returns c = λ K n xs r w p ts e. lawful K n xs r w p ts e

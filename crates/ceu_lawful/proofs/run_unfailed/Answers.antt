@@ -1,0 +1,5 @@
+use Rattle.ceu_lawful.proofs.Runs.{unfailed}
+use Rattle.ceu_lawful.proofs.run_unfailed.Goals as goal
+
+pub returns : goal.returns
+returns c = λ K n xs r w p e. unfailed K n xs r w p e
