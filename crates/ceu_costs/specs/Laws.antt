@@ -57,4 +57,5 @@ LevelBounded = (K : Kernel) (k : ℕ) (c : Config) → level_of (steps K k c) �
 -- So the first reaction stays within the bounds of the program.
 abbrev pub FirstReactionWithin : Type 0
 FirstReactionWithin = (K : Kernel) (k : ℕ) → PaysInside K
-    → (turns_begun K k (booted K) ≤ (bounds K).turns) × (levels_opened K k (booted K) ≤ (bounds K).opens) × (level_of (steps K k (booted K)) ≤ (bounds K).opens)
+    → (turns_begun K k (booted K) ≤ (bounds K).turns) × (levels_opened K k (booted K) ≤ (bounds K).opens)
+        × (level_of (steps K k (booted K)) ≤ (bounds K).opens)

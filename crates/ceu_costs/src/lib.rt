@@ -31,7 +31,8 @@ pub fn resumption_counted()
     ensures { ResumptionCounted }
 {}
 
-/// So in a program that emits, spawns, kills and awaits code nowhere no more turns begin and no more levels open than are to pay where a reaction begins.
+/// So in a program that emits, spawns, kills and awaits code nowhere a reaction begins no more turns, and opens no more levels, than are to pay where it
+/// begins.
 pub fn turns_within()
     ensures { TurnsWithin }
 {}
