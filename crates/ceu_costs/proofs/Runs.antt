@@ -15,7 +15,7 @@ use Rattle.ceu_tree.specs.Paths.{Way, passes_from}
 use Rattle.ceu_tree.specs.Costs.{Cost, cost, nothing, plus, paced, bounds}
 use Rattle.ceu_tree.specs.Around.{Outcome, Goes, Rests, Raises, Fails, Ends}
 use Rattle.ceu_tree.specs.Step.{stepped}
-use Rattle.ceu_tree.specs.Run.{Config, Turning, Between, Waiting, Ended, Faulted, config_of, unless_failed, chosen_at, next, booted}
+use Rattle.ceu_tree.specs.Run.{Config, Turning, Between, Waiting, Ended, Faulted, config_of, unless_failed, chosen_at, next, steps, booted}
 use Rattle.ceu_legal.specs.Shape.{program_part, ConfigFits}
 use Rattle.ceu_legal.proofs.RunFits.{next_fits, booted_fits}
 use Rattle.ceu_bound.specs.Filled.{emitting, entering}
@@ -24,7 +24,7 @@ use Rattle.ceu_endings.proofs.CountedRuns.{next_kept, booted_kept}
 use Rattle.ceu_costs.specs.Ways.{goes_on, ways}
 use Rattle.ceu_costs.specs.Due.{at_await, at_head, running, head_due, due_in_loop, due, due_of_branches, due_of_instances, due_at_head, due_in, to_pay}
 use Rattle.ceu_costs.specs.Pays.{Within, Comes}
-use Rattle.ceu_costs.specs.Programs.{PaysInside, begins, opens, turns_begun, levels_opened}
+use Rattle.ceu_costs.specs.Programs.{PaysInside, begins, opens, turns_begun, levels_opened, level_of}
 use Rattle.ceu_costs.proofs.Places.{focus_at, leaf_at}
 use Rattle.ceu_costs.proofs.Turns.{step_pays, resumption_counted, boot_within}
 
@@ -85,6 +85,43 @@ module _ (P : List Bool) (E N : List Cost) where
 
   pub turn_alive : (n : ℕ) (f : Focus Act) → 1 ≤ (due P E N (plug f (Run n (leaf f)))).turns
   turn_alive n f = (plug_alive f (Run n (leaf f)) (run_alive n (leaf f))).whole
+
+-- ---- the level of a reaction lies no higher than the levels that it has opened
+
+module _ (K : Kernel) where
+  left_level : (n : ℕ) (x : Outcome) (u : World) → level_of (config_of n x u) ≤ n + opens n (config_of n x u)
+  left_level n (Goes g) u = omega arith
+  left_level n (Rests q) u = omega arith
+  left_level n (Raises q) u = omega arith
+  left_level n (Fails e q) u = omega arith
+  left_level n (Ends v) u = omega arith
+  left_level n x u = omega arith
+
+  failed_level : (n : ℕ) (c : Config) (u : World) → level_of c ≤ n + opens n c → level_of (unless_failed u c) ≤ n + opens n (unless_failed u c)
+  failed_level n c u l = go u.fault
+    where
+      go : (o : Option (Fault × Pos)) → level_of (elim o [ Some e ↦ Faulted e u | None ↦ c ]) ≤ n + opens n (elim o [ Some e ↦ Faulted e u | None ↦ c ])
+      go None = l
+      go (Some e) = omega arith
+
+  chosen_level : (n : ℕ) (r : Residual) (w : World) (o : Option (Focus Act)) → level_of (chosen_at n o r w) ≤ n
+  chosen_level n r w (Some f) = omega arith
+  chosen_level zero r w None = omega arith
+  chosen_level (suc n) r w None = omega arith
+
+  pub level_bounded : (k : ℕ) (c : Config) → level_of (steps K k c) ≤ level_of c + levels_opened K k c
+  unfolding steps levels_opened next
+  level_bounded zero c = omega arith
+  level_bounded (suc k) (Turning n f w) =
+      let s = stepped K n Program f w in
+      let i = level_bounded k (next K (Turning n f w)) in
+      let j = failed_level n (config_of n s.outcome s.world) s.world (left_level n s.outcome s.world) in omega (arith, i, j)
+  level_bounded (suc k) (Between n r w) =
+      let i = level_bounded k (next K (Between n r w)) in
+      let j = chosen_level n r w (choose Act (runs_at n) r) in omega (arith, i, j)
+  level_bounded (suc k) (Waiting r w) = omega arith
+  level_bounded (suc k) (Ended v w) = omega arith
+  level_bounded (suc k) (Faulted e w) = omega arith
 
 -- ---- a reaction
 
@@ -171,9 +208,10 @@ module _ (K : Kernel) (h : PaysInside K) where
   levels_within (suc k) (Ended v w) t m = omega arith
   levels_within (suc k) (Faulted e w) t m = omega arith
 
-  pub first_within : (k : ℕ) → (turns_begun K k (booted K) ≤ (bounds K).turns) × (levels_opened K k (booted K) ≤ (bounds K).opens)
+  pub first_within : (k : ℕ) → (turns_begun K k (booted K) ≤ (bounds K).turns) × (levels_opened K k (booted K) ≤ (bounds K).opens) × (level_of (steps K k (booted K)) ≤ (bounds K).opens)
   first_within k =
       let b = boot_within K in
       let t = turns_within k (booted K) (booted_fits K h.proper) (booted_kept K) in
       let l = levels_within k (booted K) (booted_fits K h.proper) (booted_kept K) in
-      let b0 = b.turns in let b1 = b.opens in (omega (arith, t, b0), omega (arith, l, b1))
+      let m = level_bounded K k (booted K) in
+      let b0 = b.turns in let b1 = b.opens in (omega (arith, t, b0), omega (arith, l, b1), omega (arith, l, b1, m))

@@ -1,5 +1,5 @@
 -- A step of a turn pays what it costs, and a turn that begins what it is counted with (this project's own).
-use Rattle.std.specs.Prelude.{◌≡◌, ◌≤◌, ℕ, suc, Bool, List, Some}
+use Rattle.std.specs.Prelude.{◌≡◌, ◌≤◌, ℕ, suc, ◌+◌, Bool, List, Some}
 use Rattle.ceu_tree.specs.declared.kernel.Kernel.{Kernel}
 use Rattle.ceu_tree.specs.Residual.{Program, Act, Residual, Run}
 use Rattle.ceu_tree.specs.Focus.{Frame, Focus, fill, plug, leaf, choose}
@@ -9,14 +9,14 @@ use Rattle.ceu_tree.specs.Costs.{Cost, bounds}
 use Rattle.ceu_tree.specs.Proper.{Proper}
 use Rattle.ceu_tree.specs.Around.{Outcome, up}
 use Rattle.ceu_tree.specs.Step.{stepped}
-use Rattle.ceu_tree.specs.Run.{Between, booted}
+use Rattle.ceu_tree.specs.Run.{Config, Between, booted, steps}
 use Rattle.ceu_legal.specs.Shape.{Part, FrameFits, program_part, TurnFits, ConfigFits}
 use Rattle.ceu_legal.specs.Shape as shape
 use Rattle.ceu_endings.specs.Counted.{focus_counted, Counted}
 use Rattle.ceu_costs.specs.Due.{to_pay}
 use Rattle.ceu_costs.specs.Pays.{Within, Pays, Comes, focus_keeps}
 use Rattle.ceu_costs.specs.Starts.{act_keeps}
-use Rattle.ceu_costs.specs.Programs.{PaysInside, turns_begun, levels_opened}
+use Rattle.ceu_costs.specs.Programs.{PaysInside, turns_begun, levels_opened, level_of}
 
 -- what a part pays, the part around it pays
 abbrev pub FramesPay : Type 0
@@ -50,6 +50,12 @@ abbrev pub TurnsWithin : Type 0
 TurnsWithin = (K : Kernel) (k n : ℕ) (r : Residual) (w : World) → PaysInside K → ConfigFits K (Between n r w) → Counted (Between n r w)
     → (turns_begun K k (Between n r w) ≤ (to_pay K (Between n r w)).turns) × (levels_opened K k (Between n r w) ≤ (to_pay K (Between n r w)).opens)
 
+-- A reaction's level lies no higher above that of its start than it has opened levels.
+abbrev pub LevelBounded : Type 0
+LevelBounded = (K : Kernel) (k : ℕ) (c : Config) → level_of (steps K k c) ≤ level_of c + levels_opened K k c
+
 -- So the first reaction stays within the bounds of the program.
 abbrev pub FirstReactionWithin : Type 0
-FirstReactionWithin = (K : Kernel) (k : ℕ) → PaysInside K → (turns_begun K k (booted K) ≤ (bounds K).turns) × (levels_opened K k (booted K) ≤ (bounds K).opens)
+FirstReactionWithin = (K : Kernel) (k : ℕ) → PaysInside K
+    → (turns_begun K k (booted K) ≤ (bounds K).turns) × (levels_opened K k (booted K) ≤ (bounds K).opens)
+        × (level_of (steps K k (booted K)) ≤ (bounds K).opens)

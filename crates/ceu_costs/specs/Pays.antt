@@ -49,7 +49,8 @@ module _ (passing : List Bool) (events : List Cost) (entering : List Cost) where
     pub fewer : Fewer (ways passing after) (ways passing before)
     pub ended : (is_over after || has_end (ways passing after)) ≡ true → (is_over before || has_end (ways passing before)) ≡ true
     -- in a loop that an event paces it stays at the head, and so does a leaf at its await
-    pub head : may_be_paced d ≡ true → at_head before ≡ true → (at_head after ≡ true) × Within (plus k (due_at_head passing events entering after)) (due_at_head passing events entering before)
+    pub head : may_be_paced d ≡ true → at_head before ≡ true
+        → (at_head after ≡ true) × Within (plus k (due_at_head passing events entering after)) (due_at_head passing events entering before)
     pub await : at_await before ≡ true → (at_await after ≡ true) × Within (plus k (running after)) (running before)
 
   -- a turn that is past its part

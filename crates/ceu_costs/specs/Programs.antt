@@ -66,3 +66,8 @@ levels_opened K zero c = 0
 levels_opened K (suc k) (Turning n f w) = opens n (next K (Turning n f w)) + levels_opened K k (next K (Turning n f w))
 levels_opened K (suc k) (Between n r w) = levels_opened K k (next K (Between n r w))
 levels_opened K (suc k) c = 0
+
+abbrev pub level_of : Config → ℕ
+level_of (Turning n f w) = n
+level_of (Between n r w) = n
+level_of c = 0

@@ -4,7 +4,7 @@
 //! that, each turn that is over pays one, and each level that opens pays one of the levels too.
 #![tactic(auto)]
 
-ghost use Rattle.ceu_costs.specs.Laws.{BootWithin, FirstReactionWithin, FramesPay, LeavingPays, ResumptionCounted, StepPays, TurnsWithin};
+ghost use Rattle.ceu_costs.specs.Laws.{BootWithin, FirstReactionWithin, FramesPay, LeavingPays, LevelBounded, ResumptionCounted, StepPays, TurnsWithin};
 
 /// What is left of a part costs less by what a step paid, and may be left by no other way: so it is with the part around it.
 pub fn frames_pay()
@@ -31,12 +31,18 @@ pub fn resumption_counted()
     ensures { ResumptionCounted }
 {}
 
-/// So in a program that emits, spawns, kills and awaits code nowhere no more turns begin and no more levels open than are to pay where a reaction begins,
+/// So in a program that emits, spawns, kills and awaits code nowhere a reaction begins no more turns, and opens no more levels, than are to pay where it
+/// begins.
 pub fn turns_within()
     ensures { TurnsWithin }
 {}
 
-/// and the first reaction stays within the bounds.
+/// A reaction's level lies no higher above that of its start than it has opened levels.
+pub fn level_bounded()
+    ensures { LevelBounded }
+{}
+
+/// So the first reaction of such a program stays within the bounds, with its turns, its levels and the level that it is at.
 pub fn first_reaction_within()
     ensures { FirstReactionWithin }
 {}
