@@ -58,4 +58,4 @@ LevelBounded = (K : Kernel) (k : ℕ) (c : Config) → level_of (steps K k c) �
 abbrev pub FirstReactionWithin : Type 0
 FirstReactionWithin = (K : Kernel) (k : ℕ) → PaysInside K
     → (turns_begun K k (booted K) ≤ (bounds K).turns) × (levels_opened K k (booted K) ≤ (bounds K).opens)
-        × (level_of (steps K k (booted K)) ≤ (bounds K).opens)
+    × (level_of (steps K k (booted K)) ≤ (bounds K).opens)
