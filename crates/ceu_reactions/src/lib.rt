@@ -1,0 +1,2 @@
+//! Reactions end within the bounds of their program.
+#![tactic(auto)]
