@@ -1,16 +1,14 @@
 -- Steps and commands lead from lawful configurations to lawful ones, and those that wait are legal.
-use Rattle.std.proofs.Common.{◌≡◌, refl, ap, subst, ◌≤◌, ◌^◌, ℕ, zero, suc, ◌+◌, true, false, ◌&&◌, inl, inr, nat_lt, List, [], ◌∷◌, arith}
-use Rattle.std.proofs.lemmas.Bool.{and_parts, and_from, false≢true}
+use Rattle.std.proofs.Common.{◌≡◌, refl, ap, subst, ◌^◌, ℕ, zero, suc, true, false, ◌&&◌, inl, inr, nat_lt, List, [], ◌∷◌, arith}
+use Rattle.std.proofs.lemmas.Bool.{and_parts, and_from}
 use Rattle.std.specs.List.{list_all}
 use Rattle.ceu_tree.specs.declared.command.Command.{Command}
 use Rattle.ceu_tree.specs.declared.kernel.Kernel.{Kernel}
 use Rattle.ceu_tree.specs.Residual.{Program, Residual}
-use Rattle.ceu_tree.specs.Focus.{Focus}
 use Rattle.ceu_tree.specs.World.{World, is_among}
 use Rattle.ceu_tree.specs.Legal.{seats, numbers, all_differ, lies, no_fault, stands, is_legal}
 use Rattle.ceu_tree.specs.Proper.{is_proper}
 use Rattle.ceu_tree.specs.Run.{Config, Turning, Between, Waiting, Ended, Faulted, is_reacting, booted, next, steps, done, all_done, run}
-use Rattle.ceu_legal.specs.Shape.{ConfigFits}
 use Rattle.ceu_legal.proofs.RunFits.{root_sound, next_fits, done_fits, booted_fits}
 use Rattle.ceu_legal.proofs.RunFits as legal
 use Rattle.ceu_ranges.specs.Ranges.{in_range, ConfigInRange}
