@@ -1,5 +1,5 @@
 -- A step of a turn pays in the whole tree: kills, spawns and emissions too.
-use Rattle.std.proofs.Common.{◌≡◌, refl, sym, ap, ◌∙◌, subst, ℕ, suc, ◌+◌, ℤ, pos, Bool, true, false, if◌then◌else◌, ◌==◌, inl, List, [], ◌∷◌, Option, Some, None, Result, Ok, Err, arith}
+use Rattle.std.proofs.Common.{◌≡◌, refl, sym, ap, ◌∙◌, subst, ℕ, suc, ◌+◌, ℤ, pos, Bool, true, false, if◌then◌else◌, ◌==◌, List, [], ◌∷◌, Option, Some, None, Result, Ok, Err, arith}
 use Rattle.std.proofs.lemmas.Bool.{false≢true}
 use Rattle.ceu_base.specs.declared.kinds.Pos.{Pos}
 use Rattle.ceu_base.specs.declared.kinds.Fault.{Fault}
@@ -19,7 +19,7 @@ use Rattle.ceu_tree.specs.Wake.{by_event, woken}
 use Rattle.ceu_tree.specs.Leaf as does
 use Rattle.ceu_tree.specs.Leaf.{Layer, Does, Done, done, or_fails, code_at, spawning, killing, started, acted}
 use Rattle.ceu_tree.specs.Around.{Outcome, Goes, Rests, Raises, Fails, Past, Registers, AtBlockEnd, AtLoopHead, Leaves, Moved, moved, answered}
-use Rattle.ceu_tree.specs.Paths.{Way, ToEnd, is_end}
+use Rattle.ceu_tree.specs.Paths.{ToEnd, is_end}
 use Rattle.ceu_tree.specs.Costs.{Cost, cost, nothing, plus, cost_at, enter_block}
 use Rattle.ceu_tree.specs.Step.{event_code, free_place, seated, spawned_at, spawned, unseat, killed, does_in, stepped}
 use Rattle.ceu_tree.specs.Proper.{Scope, is_proper}
@@ -30,20 +30,19 @@ use Rattle.ceu_legal.proofs.StepFits.{around_sound, unseated_around}
 use Rattle.ceu_legal.proofs.UpFits.{no_finalizer, Sound}
 use Rattle.ceu_legal.proofs.RunFits.{root_sound}
 use Rattle.ceu_living.specs.Instances.{pools_stand}
-use Rattle.ceu_living.proofs.Trees.{focus_stands, unplugged}
+use Rattle.ceu_living.proofs.Trees.{unplugged}
 use Rattle.ceu_living.proofs.Spawns.{one_has}
 use Rattle.ceu_living.proofs.Rooms.{acted_room}
 use Rattle.ceu_living.proofs.Steps.{SpawnFine}
 use Rattle.ceu_living.proofs.Reactions.{room_fine}
 use Rattle.ceu_endings.specs.Counted.{focus_counted}
 use Rattle.ceu_costs.specs.Ways.{act_ways, ways}
-use Rattle.ceu_costs.specs.Due.{is_await, act_due, due}
+use Rattle.ceu_costs.specs.Due.{is_await, due}
 use Rattle.ceu_costs.specs.Pays.{Within, IsOf, Fewer, Pays, Leaving, Comes, focus_keeps}
 use Rattle.ceu_costs.specs.Kept.{starts_kept, act_kept, CodesPay}
-use Rattle.ceu_costs.specs.Heads.{heads_reached, EmissionsPay}
+use Rattle.ceu_costs.specs.Heads.{EmissionsPay}
 use Rattle.ceu_costs.specs.Whole.{PaidBy, WakingCosts}
-use Rattle.ceu_costs.proofs.Cost.{same, chain, both}
-use Rattle.ceu_costs.proofs.AtMost.{AtMost}
+use Rattle.ceu_costs.proofs.Cost.{chain}
 use Rattle.ceu_costs.proofs.Beyond.{leaf_unseated, unseat_counted, unseat_keeps, unseat_less, seated_more}
 use Rattle.ceu_costs.proofs.Opened.{quick_layer, quick_is, enter_layer, enter_is}
 use Rattle.ceu_costs.proofs.WayLists.{any_sub}
@@ -80,7 +79,6 @@ at_start s (finishes p) e = absurd (cc)
 at_start s ends e = absurd (cc)
 
 module _ (P : List Bool) (E N : List Cost) (n : ℕ) where
-
   pub paid_more : (p r : Residual) (x : Outcome) → Within (due P E N p) (due P E N r) → PaidBy P E N n p x → PaidBy P E N n r x
   paid_more p r (Goes g) l h = chain _ _ _ h l
   paid_more p r (Rests q) l h = chain _ _ _ h l
