@@ -1,0 +1,5 @@
+pub mod Above
+pub mod Rows
+pub mod Ways
+pub mod Entered
+pub mod Stood
