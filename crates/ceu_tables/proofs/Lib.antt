@@ -3,3 +3,5 @@ pub mod Rows
 pub mod Ways
 pub mod Entered
 pub mod Stood
+pub mod Calm
+pub mod Woken
