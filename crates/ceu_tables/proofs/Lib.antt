@@ -5,3 +5,4 @@ pub mod Entered
 pub mod Stood
 pub mod Calm
 pub mod Woken
+pub mod Settled

@@ -5,7 +5,7 @@
 //! cost what the table says.
 #![tactic(auto)]
 
-ghost use Rattle.ceu_tables.specs.Laws.{BodiesBelow, EntersAgree, PassesAgree, StaysAgree};
+ghost use Rattle.ceu_tables.specs.Laws.{BodiesBelow, EmissionsSettle, EntersAgree, PassesAgree, StaysAgree};
 
 /// The body of a code uses only codes above it.
 pub fn bodies_below()
@@ -25,4 +25,9 @@ pub fn enters_agree()
 /// and so does the one of what they cost where they stood waiting.
 pub fn stays_agree()
     ensures { StaysAgree }
+{}
+
+/// In a kernel that keeps the rules on loops the table of emissions is settled: another round changes nothing in it.
+pub fn emissions_settle()
+    ensures { EmissionsSettle }
 {}
