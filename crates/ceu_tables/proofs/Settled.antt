@@ -1,6 +1,6 @@
 -- In a kernel that keeps the rules on loops no way along the arrows meets an event twice, so after as many rounds as there are events the table of
 -- emissions is settled.
-use Rattle.std.proofs.Common.{◌≡◌, refl, sym, ap, subst, ◌∙◌, ℕ, zero, suc, ◌+◌, ◌<◌, ◌≤◌, Bool, true, false, ◌||◌, ◌==◌, ◌⊎◌, inl, inr, List, [], ◌∷◌, ◌++◌, map, length, Option, Some, None, get_or, arith, eqb-true, eq-eqb}
+use Rattle.std.proofs.Common.{◌≡◌, refl, sym, ap, subst, ◌∙◌, ℕ, zero, suc, ◌+◌, ◌<◌, ◌≤◌, Bool, true, false, ◌||◌, ◌==◌, ◌⊎◌, inl, inr, List, [], ◌∷◌, map, length, Option, Some, None, arith, eqb-true, eq-eqb}
 use Rattle.std.specs.List.{Contains}
 use Rattle.std.proofs.lemmas.Bool.{false≢true}
 use Rattle.std.proofs.lemmas.List.Elements.{Contains-append_left, Contains-append_right, Contains-append_cases}
@@ -9,7 +9,7 @@ use Rattle.ceu_tree.specs.declared.kernel.Kernel.{Kernel}
 use Rattle.ceu_tree.specs.declared.kernel.KEvent.{KEvent}
 use Rattle.ceu_tree.specs.Step.{event_code}
 use Rattle.ceu_tree.specs.Paths.{passes_from}
-use Rattle.ceu_tree.specs.Costs.{Cost, cost, nothing, plus, cost_at, paced, woken_block, woken_codes, instances_from, enters_from, emissions_from, emissions}
+use Rattle.ceu_tree.specs.Costs.{cost, nothing, plus, cost_at, paced, woken_block, woken_codes, instances_from, enters_from, emissions}
 use Rattle.ceu_paths.specs.Emits.{block_emits}
 use Rattle.ceu_paths.specs.Joined.{joined}
 use Rattle.ceu_paths.specs.Loops.{TrailLoop}
