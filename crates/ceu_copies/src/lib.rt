@@ -2,9 +2,14 @@
 //! empty body.
 #![tactic(auto)]
 
-ghost use Rattle.ceu_copies.specs.Laws.{PoolsHold};
+ghost use Rattle.ceu_copies.specs.Laws.{CopiesWithin, PoolsHold};
 
 /// What stands in the pools of a block weighs at most what the pools weigh where they are full.
 pub fn pools_hold()
     ensures { PoolsHold }
+{}
+
+/// Of each code no more bodies are open in a tree than the table of instances has of it.
+pub fn copies_within()
+    ensures { CopiesWithin }
 {}
