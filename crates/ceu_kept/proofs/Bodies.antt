@@ -1,5 +1,5 @@
 -- In a proper kernel whose loops break no rule the program's body and each code's keep the rules, and a code's body is left by its end alone.
-use Rattle.std.proofs.Common.{◌≡◌, refl, sym, ap, ◌∙◌, subst, ℕ, zero, suc, Bool, true, false, not, ◌||◌, ◌⊎◌, inl, inr, Contains, List, [], ◌∷◌, ◌++◌, Option, Some, None, arith, eq-eqb}
+use Rattle.std.proofs.Common.{◌≡◌, refl, sym, ap, ◌∙◌, subst, ℕ, zero, suc, Bool, true, false, not, ◌||◌, ◌⊎◌, inl, inr, Contains, List, [], ◌∷◌, Some, None, arith, eq-eqb}
 use Rattle.std.proofs.lemmas.Bool.{false≢true}
 use Rattle.std.proofs.lemmas.List.Elements.{Contains-append_left, Contains-append_right}
 use Rattle.std.specs.List.{list_any}
@@ -8,10 +8,10 @@ use Rattle.ceu_base.specs.declared.kinds.Ty.{Ty}
 use Rattle.ceu_base.specs.declared.kinds.Ty.TheVariants as ty
 use Rattle.ceu_tree.specs.declared.kernel.Kernel.{Kernel}
 use Rattle.ceu_tree.specs.declared.kernel.KCode.{KCode}
-use Rattle.ceu_tree.specs.declared.kernel.KBlock.{KBlock, out-KBlock}
+use Rattle.ceu_tree.specs.declared.kernel.KBlock.{out-KBlock}
 use Rattle.ceu_tree.specs.Leaf.{code_at}
 use Rattle.ceu_tree.specs.Paths.{Way, ToEnd, ToEscape, ToBreak, ToContinue, is_end, is_escape, has_end, end_if, quick_block, passes, passes_from}
-use Rattle.ceu_tree.specs.Proper.{BodyAim, Proper, body_scope, is_proper}
+use Rattle.ceu_tree.specs.Proper.{BodyAim, body_scope, is_proper}
 use Rattle.ceu_legal.specs.Shape.{code_scope}
 use Rattle.ceu_legal.proofs.Static.{names_of, code_static, program_static}
 use Rattle.ceu_values.proofs.Grounds.{program_ground, code_ground}

@@ -1,5 +1,5 @@
 -- The ways on which statements and blocks that keep the rules of their scope may be left at once: to their end, or to an aim around them.
-use Rattle.std.proofs.Common.{◌≡◌, refl, sym, ap, ◌∙◌, subst, ℕ, ℤ, pos, Bool, true, false, not, if◌then◌else◌, ◌||◌, ◌&&◌, ◌⊎◌, inl, inr, List, [], ◌∷◌, ◌++◌, Option, Some, None, eq-eqb}
+use Rattle.std.proofs.Common.{◌≡◌, refl, sym, ap, ◌∙◌, subst, ℕ, pos, Bool, true, false, not, if◌then◌else◌, ◌||◌, ◌&&◌, ◌⊎◌, inl, inr, List, [], ◌∷◌, ◌++◌, Option, Some, None, eq-eqb}
 use Rattle.std.proofs.lemmas.Bool.{and_parts, false≢true}
 use Rattle.ceu_tree.specs.declared.kernel.Kernel.{Kernel}
 use Rattle.ceu_tree.specs.declared.kernel.KLoop.{KLoop}
@@ -12,10 +12,10 @@ use Rattle.ceu_tree.specs.declared.kernel.KStmt.{KStmt, Row_of-KArm, end_of-KArm
 use Rattle.ceu_tree.specs.Leaf as leaf
 use Rattle.ceu_tree.specs.Leaf.{Exit}
 use Rattle.ceu_tree.specs.Paths.{Way, ToEnd, ToEscape, ToBreak, ToContinue, is_end, is_escape, is_break, is_continue, has_end, without_end, end_if, flag, outer_ways, loop_ways, seq_ways, do_ways, par_ways, quick, quick_block, quick_arm, quick_nodes, quick_arms, quick_blocks, all_end}
-use Rattle.ceu_tree.specs.Proper.{Scope, Aim, DoAim, BodyAim, LoopAim, with_decls, with_aim, with_turns, do_aim, outside_finalizers, is_trail, escape_ok, stmt_ok, block_ok, arm_ok, nodes_ok, arms_ok, blocks_ok}
+use Rattle.ceu_tree.specs.Proper.{Scope, Aim, DoAim, BodyAim, LoopAim, with_decls, with_aim, with_turns, do_aim, outside_finalizers, escape_ok, stmt_ok, block_ok, arm_ok, nodes_ok, arms_ok, blocks_ok}
 use Rattle.ceu_endings.proofs.Aims as aims
 use Rattle.ceu_endings.proofs.Aims.{aims_at, turns_aims, escape_leads, loop_leads}
-use Rattle.ceu_costs.specs.Pays.{IsOf, Fewer, way_of}
+use Rattle.ceu_costs.specs.Pays.{IsOf, way_of}
 use Rattle.ceu_costs.proofs.WayLists.{among_case, filter_out, end_out}
 use Rattle.ceu_kept.specs.Exits.{aim_takes, IsAimed, Leads, AllLead}
 

@@ -16,12 +16,12 @@ use Rattle.ceu_tree.specs.Paths.{constant_bound, quick_block}
 use Rattle.ceu_tree.specs.Costs.{paced}
 use Rattle.ceu_tree.specs.Proper.{Scope, LoopAim, with_decls, with_aim, with_turns, do_aim, outside_finalizers, is_trail, par_ok, stmt_ok, block_ok, arm_ok, nodes_ok, arms_ok, blocks_ok}
 use Rattle.ceu_paths.specs.Loops.{TrailLoop, trail_loop, loops, block_loops, arm_loops, nodes_loops, arms_loops, blocks_loops}
-use Rattle.ceu_bound.specs.PhaseB.{all_loops, goes_round}
+use Rattle.ceu_bound.specs.PhaseB.{goes_round}
 use Rattle.ceu_endings.proofs.Aims.{Below, below_more, do_node, turns_aims}
 use Rattle.ceu_endings.proofs.Rules.{counts_parts, block_counts}
 use Rattle.ceu_costs.specs.Ways.{leads_to}
 use Rattle.ceu_costs.specs.Pays.{LoopKeeps}
-use Rattle.ceu_costs.specs.Starts.{BlockClear, DoKeeps, PartKeeps, arms_keep, branches_keep, par_keeps}
+use Rattle.ceu_costs.specs.Starts.{BlockClear, PartKeeps, arms_keep, branches_keep, par_keeps}
 use Rattle.ceu_costs.specs.Kept.{starts_kept, inside_kept, block_kept, arm_kept, nodes_kept, arms_kept, blocks_kept}
 use Rattle.ceu_kept.specs.Exits.{AllLead}
 use Rattle.ceu_kept.proofs.Exits.{block_leads}
