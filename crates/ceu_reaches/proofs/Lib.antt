@@ -1,0 +1,4 @@
+pub mod Paced
+pub mod Awake
+pub mod Stands
+pub mod Trees
