@@ -2,3 +2,4 @@ pub mod Paced
 pub mod Awake
 pub mod Stands
 pub mod Trees
+pub mod Bodies

@@ -90,7 +90,7 @@ module _ (P : List Bool) (E N : List Cost) (level e : ℕ) (v : ℤ) where
       → Within (due P E N (awake r)) (plus (due P E N r) (heads P E N e r))
       → Within (body_due i (awake r) rest) (plus (body_due j r rest) (plus (one_turn x b) (plus h (heads P E N e r))))
   unfolding due heads each_leaf ways
-  list_costs {s = s} {r = WaitEvent k s} b done rest x i j h p z (at_event t q) y w = go (k == e) refl
+  list_costs {s = s} b done rest x i j h p z (at_event {k = k} t q) y w = go (k == e) refl
     where
       first_of : (x ≡ k) × (enter_list P E N rest ≡ body_cost P E N b)
       first_of = paced_await P E N b done rest s x k t p z q
