@@ -3,11 +3,11 @@ use Rattle.std.proofs.Common.{◌≡◌, refl, ap, ◌∙◌, ℕ, ℤ, Bool, tr
 use Rattle.ceu_tree.specs.declared.kernel.KNode.{KNode}
 use Rattle.ceu_tree.specs.declared.kernel.KBlock.{out-KBlock}
 use Rattle.ceu_tree.specs.declared.kernel.KStmt.{out-KStmt}
-use Rattle.ceu_tree.specs.Residual.{Act, Finish, Residual, Over, Run, WaitInput, WaitTime, WaitEvent, WaitForever, InAsync, Block, Open, Loop, Call, Par, Branches, no_branch, branch, Instances}
+use Rattle.ceu_tree.specs.Residual.{Finish, Residual, Over, Run, WaitInput, WaitTime, WaitEvent, WaitForever, InAsync, Block, Open, Loop, Call, Par, Branches, no_branch, branch}
 use Rattle.ceu_tree.specs.Focus.{Frame, OfBlock, OfInstance, OfOpen, OfLoop, OfCall, OfPar, Focus, Here, In, join, fill, plug, has_body}
-use Rattle.ceu_tree.specs.Wake.{each_leaf, each_in_branches, each_in_instances, each_in_body, by_event, woken}
+use Rattle.ceu_tree.specs.Wake.{each_leaf, each_in_branches, each_in_body, by_event, woken}
 use Rattle.ceu_tree.specs.Around.{is_over, kind_of}
-use Rattle.ceu_tree.specs.Paths.{Way, ToEnd, has_end, seq_ways, par_ways, quick_list}
+use Rattle.ceu_tree.specs.Paths.{ToEnd, has_end, seq_ways, par_ways, quick_list}
 use Rattle.ceu_costs.specs.Ways.{out_of, ways_of_loop, ways, ways_of_branches, each_may_end}
 
 pair_same : {A B C : Type 0} (f : A → B → C) (a b : A) (x y : B) → a ≡ b → x ≡ y → f a x ≡ f b y

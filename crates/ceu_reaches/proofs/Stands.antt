@@ -1,6 +1,5 @@
 -- What wakes keeps its counters, and its instances keep their places.
 use Rattle.std.proofs.Common.{◌≡◌, refl, ℕ, ℤ, Bool, true, false, if◌then◌else◌, ◌==◌, Option}
-use Rattle.ceu_tree.specs.declared.kernel.KNode.{KNode}
 use Rattle.ceu_tree.specs.Residual.{Finish, Residual, Run, WaitEvent}
 use Rattle.ceu_tree.specs.Focus.{Focus, plug}
 use Rattle.ceu_tree.specs.Wake.{by_event, woken}

@@ -1,16 +1,15 @@
 -- A tree whose leaves an event wakes costs more by at most what the event's paced loops in it cost.
-use Rattle.std.proofs.Common.{◌≡◌, refl, sym, ap, ◌∙◌, subst, ℕ, ℤ, Bool, true, false, if◌then◌else◌, ◌==◌, List, ◌∷◌, ◌++◌, Option, Some, None, arith, eq-eqb, eqb-true}
+use Rattle.std.proofs.Common.{◌≡◌, refl, sym, ◌∙◌, subst, ℕ, ℤ, Bool, true, false, if◌then◌else◌, ◌==◌, List, ◌∷◌, ◌++◌, Option, Some, None, arith, eq-eqb, eqb-true}
 use Rattle.ceu_tree.specs.declared.kernel.Kernel.{Kernel}
 use Rattle.ceu_tree.specs.declared.kernel.KLoop.{KLoop}
 use Rattle.ceu_tree.specs.declared.kernel.KNode.{KNode}
 use Rattle.ceu_tree.specs.declared.kernel.ParKind.{ParKind}
 use Rattle.ceu_tree.specs.declared.kernel.KBlock.{KBlock, out-KBlock}
-use Rattle.ceu_tree.specs.declared.kernel.KStmt.{out-KStmt}
 use Rattle.ceu_tree.specs.declared.kernel.KStmt.TheOpen.{KStmt-F}
-use Rattle.ceu_tree.specs.Residual.{Finish, Counter, Residual, Run, WaitEvent, Block, Branches, Instances}
+use Rattle.ceu_tree.specs.Residual.{Finish, Counter, Residual, Run, WaitEvent, Branches, Instances}
 use Rattle.ceu_tree.specs.Wake.{each_leaf, each_in_branches, each_in_instances, by_event}
 use Rattle.ceu_tree.specs.Leaf.{Layer}
-use Rattle.ceu_tree.specs.Paths.{Way, ToEnd, has_end}
+use Rattle.ceu_tree.specs.Paths.{Way, has_end}
 use Rattle.ceu_tree.specs.Costs.{Cost, cost, nothing, plus, paced, paced_body, enter_list, body_cost, is_event}
 use Rattle.ceu_tree.specs.Proper.{Scope}
 use Rattle.ceu_legal.specs.Shape.{Part, ABlock, AStatement, Fits, to_begin, to_turn, in_list, to_finish, at_input, at_time, at_event, at_forever, at_async, in_part, in_turn, in_call, in_par, EachFits, no_more, an_ended, a_branch, AllFit, none_lives, one_lives}
@@ -18,7 +17,7 @@ use Rattle.ceu_costs.specs.Ways.{goes_on, ways}
 use Rattle.ceu_costs.specs.Due.{at_await, at_head, running, head_due, due_in_loop, due, due_of_branches, due_of_instances, due_at_head}
 use Rattle.ceu_costs.specs.Pays.{Within}
 use Rattle.ceu_costs.specs.Heads.{layer_heads, heads, heads_of_branches, heads_of_instances}
-use Rattle.ceu_costs.proofs.Cost.{same, first, least}
+use Rattle.ceu_costs.proofs.Cost.{same, first}
 use Rattle.ceu_reaches.proofs.Paced.{paced_by_body, paced_await}
 use Rattle.ceu_reaches.proofs.Awake.{leaves_ways}
 
@@ -48,6 +47,15 @@ woken_turn i j h t x y e = subst (λ z. Within (plus i (plus (cost 1 0) t)) (plu
 
 stays_there : (i j h x : Cost) → Within i (plus j h) → Within (plus i nothing) (plus (plus j nothing) (plus x (plus h nothing)))
 stays_there i j h x y = let y0 = y.turns in let y1 = y.opens in record { turns = omega (arith, y0); opens = omega (arith, y1) }
+
+-- ---- an open loop, and its next turns
+
+module _ (P : List Bool) (E N : List Cost) where
+  abbrev pub loop_due : ℕ → Layer → Counter → Residual → Cost
+  loop_due node layer c r = due_in_loop P E N node layer c (at_head r) (due_at_head P E N r) (due P E N r) (ways P r)
+
+  abbrev pub next_turns : ℕ → KLoop → KBlock → Counter → List Way → Cost
+  next_turns node k b c w = if goes_on node w then head_due P E N node k b c else nothing
 
 module _ (P : List Bool) (E N : List Cost) (level e : ℕ) (v : ℤ) where
   abbrev pub awake : Residual → Residual
@@ -116,19 +124,18 @@ module _ (P : List Bool) (E N : List Cost) (level e : ℕ) (v : ℤ) where
 
   loop_costs : (node : ℕ) (kind : KLoop) (b : KBlock) (c : Counter) (r : Residual) → Within (due P E N (awake r)) (plus (due P E N r) (heads P E N e r))
       → ((x : ℕ) → paced kind b ≡ Some x → Within (turn_due (awake r)) (plus (turn_due r) (plus (one_turn x b) (heads P E N e r))))
-      → Within (due_in_loop P E N node (KStmt-F.Loop kind b) c (at_head (awake r)) (due_at_head P E N (awake r)) (due P E N (awake r)) (ways P (awake r)))
-      (plus (due_in_loop P E N node (KStmt-F.Loop kind b) c (at_head r) (due_at_head P E N r) (due P E N r) (ways P r)) (plus (layer_heads P E N e (KStmt-F.Loop kind b)) (heads P E N e r)))
+      → Within (loop_due P E N node (KStmt-F.Loop kind b) c (awake r)) (plus (loop_due P E N node (KStmt-F.Loop kind b) c r) (plus (layer_heads P E N e (KStmt-F.Loop kind b)) (heads P E N e r)))
   loop_costs node kind b c r x y = go (paced kind b) refl
     where
       go : (o : Option ℕ) → paced kind b ≡ o
-          → Within (elim o [ Some k ↦ turn_due (awake r) | None ↦ plus (due P E N (awake r)) (if goes_on node (ways P (awake r)) then head_due P E N node kind b c else nothing) ])
-          (plus (elim o [ Some k ↦ turn_due r | None ↦ plus (due P E N r) (if goes_on node (ways P r) then head_due P E N node kind b c else nothing) ])
+          → Within (elim o [ Some k ↦ turn_due (awake r) | None ↦ plus (due P E N (awake r)) (next_turns P E N node kind b c (ways P (awake r))) ])
+          (plus (elim o [ Some k ↦ turn_due r | None ↦ plus (due P E N r) (next_turns P E N node kind b c (ways P r)) ])
           (plus (if is_event e o then plus (cost 1 0) (body_cost P E N b) else nothing) (heads P E N e r)))
       go (Some k) z = y k z
       go None z =
           more_else _ _ nothing _
-          (subst (λ w. Within (plus (due P E N (awake r)) (if goes_on node w then head_due P E N node kind b c else nothing)) (plus (plus (due P E N r) (if goes_on node (ways P r) then head_due P E N node kind b c else nothing)) (heads P E N e r)))
-          (sym (leaves_ways level e v P r)) (with_rest (due P E N (awake r)) (due P E N r) (heads P E N e r) _ x))
+          (subst (λ w. Within (plus (due P E N (awake r)) (next_turns P E N node kind b c w)) (plus (plus (due P E N r) (next_turns P E N node kind b c (ways P r))) (heads P E N e r))) (sym (leaves_ways level e v P r))
+          (with_rest (due P E N (awake r)) (due P E N r) (heads P E N e r) _ x))
 
   -- ---- a tree
 
@@ -148,8 +155,7 @@ module _ (P : List Bool) (E N : List Cost) (level e : ℕ) (v : ℤ) where
       tree_costs (at_async b q h) = spared _
       tree_costs (in_part b q h) = tree_costs h
       tree_costs (in_turn {s = s} {c = c} {r = r} kind b q o h) =
-          subst (λ y. Within (due_in_loop P E N s.node y c (at_head (awake r)) (due_at_head P E N (awake r)) (due P E N (awake r)) (ways P (awake r)))
-          (plus (due_in_loop P E N s.node y c (at_head r) (due_at_head P E N r) (due P E N r) (ways P r)) (plus (layer_heads P E N e y) (heads P E N e r)))) (sym q)
+          subst (λ y. Within (loop_due P E N s.node y c (awake r)) (plus (loop_due P E N s.node y c r) (plus (layer_heads P E N e y) (heads P E N e r)))) (sym q)
           (loop_costs s.node kind b c r (tree_costs h) (λ x p. turn_costs kind x p h))
       tree_costs (in_call c es f t k q o h) = tree_costs h
       tree_costs (in_par k slot bs q o h) = each_cost h

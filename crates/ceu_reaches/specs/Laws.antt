@@ -44,4 +44,4 @@ abbrev pub EmissionsWake : Type 0
 EmissionsWake = (passing : List Bool) (events entering : List Cost) (K : Kernel) (n : ℕ) (f : Focus Act) (s : KNode) (e : ℕ) (x : _) (v : ℤ)
     → Proper K → TurnFits K (suc n) (program_part K) f → leaf f ≡ Start s → out-KStmt s.stmt ≡ KStmt-F.Emit e x
     → Within (due passing events entering (woken (event_code e K.events) (by_event (n + 1) e v) f (Run n (Finish s (pos 0)))))
-      (plus (due passing events entering (plug f (Run n (Finish s (pos 0))))) (heads_reached passing events entering e (event_code e K.events) f (Run n (Finish s (pos 0)))))
+    (plus (due passing events entering (plug f (Run n (Finish s (pos 0))))) (heads_reached passing events entering e (event_code e K.events) f (Run n (Finish s (pos 0)))))

@@ -1,4 +1,4 @@
-use Rattle.std.proofs.Common.{refl, ap, ◌∙◌, ◌+◌, suc, pos}
+use Rattle.std.proofs.Common.{ap, ◌+◌, suc, pos}
 use Rattle.ceu_tree.specs.Residual.{Act, Finish, Run}
 use Rattle.ceu_tree.specs.Focus.{leaf}
 use Rattle.ceu_tree.specs.Step.{event_code}
