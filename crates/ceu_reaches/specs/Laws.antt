@@ -1,23 +1,19 @@
 -- What an emission costs in a tree (this project's own): the leaves that it wakes cost no more than they did, but for those at the head of a loop that the
 -- event paces.
-use Rattle.std.specs.Prelude.{◌≡◌, ℕ, suc, ◌+◌, ℤ, pos, Bool, List, Option}
+use Rattle.std.specs.Prelude.{◌≡◌, ℕ, ℤ, Bool, List, Option}
 use Rattle.ceu_tree.specs.declared.kernel.Kernel.{Kernel}
-use Rattle.ceu_tree.specs.declared.kernel.KNode.{KNode}
-use Rattle.ceu_tree.specs.declared.kernel.KStmt.{out-KStmt}
-use Rattle.ceu_tree.specs.declared.kernel.KStmt.TheOpen.{KStmt-F}
-use Rattle.ceu_tree.specs.Residual.{Act, Start, Finish, Residual, Run}
-use Rattle.ceu_tree.specs.Focus.{Focus, plug, leaf}
+use Rattle.ceu_tree.specs.Residual.{Act, Residual}
+use Rattle.ceu_tree.specs.Focus.{Focus, plug}
 use Rattle.ceu_tree.specs.Wake.{each_leaf, by_event, woken}
 use Rattle.ceu_tree.specs.Costs.{Cost, plus}
-use Rattle.ceu_tree.specs.Proper.{Proper}
-use Rattle.ceu_tree.specs.Step.{event_code}
-use Rattle.ceu_legal.specs.Shape.{Part, program_part, Fits, Around, TurnFits}
+use Rattle.ceu_legal.specs.Shape.{Part, Fits, Around}
 use Rattle.ceu_living.specs.Instances.{pools_stand}
 use Rattle.ceu_endings.specs.Counted.{tree_counted}
 use Rattle.ceu_costs.specs.Ways.{ways}
 use Rattle.ceu_costs.specs.Due.{due}
 use Rattle.ceu_costs.specs.Pays.{Within}
 use Rattle.ceu_costs.specs.Heads.{heads, heads_reached}
+use Rattle.ceu_costs.specs.Whole as whole
 
 -- What an emission wakes may be left on the ways on which it might have been left before, and keeps its counters, and its instances their places.
 pub record WakingKeeps (passing : List Bool) (after before : Residual) : Type 0 where
@@ -41,7 +37,4 @@ WakingCosts = (passing : List Bool) (events entering : List Cost) (K : Kernel) (
 
 -- And so it is with each emission of a turn that is on.
 abbrev pub EmissionsWake : Type 0
-EmissionsWake = (passing : List Bool) (events entering : List Cost) (K : Kernel) (n : ℕ) (f : Focus Act) (s : KNode) (e : ℕ) (x : _) (v : ℤ)
-    → Proper K → TurnFits K (suc n) (program_part K) f → leaf f ≡ Start s → out-KStmt s.stmt ≡ KStmt-F.Emit e x
-    → Within (due passing events entering (woken (event_code e K.events) (by_event (n + 1) e v) f (Run n (Finish s (pos 0)))))
-    (plus (due passing events entering (plug f (Run n (Finish s (pos 0))))) (heads_reached passing events entering e (event_code e K.events) f (Run n (Finish s (pos 0)))))
+EmissionsWake = (passing : List Bool) (events entering : List Cost) (K : Kernel) → whole.WakingCosts passing events entering K
