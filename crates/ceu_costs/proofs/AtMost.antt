@@ -8,7 +8,7 @@ use Rattle.ceu_tree.specs.Residual.{Counter, Seat, Residual, Block, Branches, no
 use Rattle.ceu_tree.specs.Focus.{Frame, OfBlock, OfInstance, OfOpen, OfLoop, OfCall, OfPar, join, join_instances, fill}
 use Rattle.ceu_tree.specs.Leaf.{Layer}
 use Rattle.ceu_tree.specs.Around.{is_over}
-use Rattle.ceu_tree.specs.Paths.{Way, has_end}
+use Rattle.ceu_tree.specs.Paths.{Way}
 use Rattle.ceu_tree.specs.Costs.{Cost, nothing, plus, paced}
 use Rattle.ceu_costs.specs.Ways.{goes_on, ways, ways_of_branches, each_may_end}
 use Rattle.ceu_costs.specs.Due.{at_await, at_head, running, head_due, due_in_loop, due, due_of_branches, due_of_instances, due_at_head}

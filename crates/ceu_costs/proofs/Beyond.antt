@@ -1,49 +1,15 @@
--- A step of a turn in the whole tree pays: kills, spawns and emissions too.
-use Rattle.std.proofs.Common.{◌≡◌, refl, sym, ap, ◌∙◌, subst, ℕ, suc, ◌+◌, ℤ, pos, Bool, true, false, if◌then◌else◌, ◌==◌, nat_lt, inl, inr, List, [], ◌∷◌, Option, Some, None, Result, Ok, Err, arith}
-use Rattle.std.proofs.lemmas.Bool.{false≢true}
-use Rattle.ceu_base.specs.declared.kinds.Fault.TheVariants.{SpawnCount}
-use Rattle.ceu_base.specs.declared.kinds.Mark.TheVariants as mark
-use Rattle.ceu_tree.specs.declared.kernel.Kernel.{Kernel}
-use Rattle.ceu_tree.specs.declared.kernel.KCode.{KCode}
-use Rattle.ceu_tree.specs.declared.kernel.KNode.{KNode}
-use Rattle.ceu_tree.specs.declared.kernel.KBlock.{out-KBlock}
-use Rattle.ceu_tree.specs.declared.kernel.KStmt.{out-KStmt}
-use Rattle.ceu_tree.specs.declared.kernel.KStmt.TheOpen.{KStmt-F}
-use Rattle.ceu_tree.specs.Residual.{Body, Program, Spawned as InstanceBody, Act, Begin, Start, Finish, Seat, Residual, Over, Run, Instances, no_instance, instance}
-use Rattle.ceu_tree.specs.Focus.{Frame, OfBlock, OfInstance, OfOpen, OfLoop, OfCall, OfPar, Focus, Here, In, fill, plug, leaf, body_of}
-use Rattle.ceu_tree.specs.World.{World, NotSet, Names, marked, set_alias, set_parameters}
-use Rattle.ceu_tree.specs.Wake.{by_event, woken}
-use Rattle.ceu_tree.specs.Leaf as does
-use Rattle.ceu_tree.specs.Leaf.{Layer, Does, code_at, acted}
-use Rattle.ceu_tree.specs.Around.{Outcome, Goes, Rests, Raises, Fails, Past, Registers, AtBlockEnd, AtLoopHead, Ends, Leaves, Moved, moved, answered}
-use Rattle.ceu_tree.specs.Paths.{Way, ToEnd, has_end}
-use Rattle.ceu_tree.specs.Costs.{Cost, cost, nothing, plus, cost_at, enter_block}
-use Rattle.ceu_tree.specs.Step.{event_code, size_in, free_place, with_instance, seated_if, seat_frame, seated, spawned_at, spawned, unseated, unseat_frame, unseat, killed, emitted, does_in, stepped}
-use Rattle.ceu_tree.specs.Proper.{Scope, is_proper}
-use Rattle.ceu_legal.specs.Shape.{Part, AStatement, program_part, Around, ActFits, begins, heads, goes_again, starts, finishes, ends, TurnFits}
-use Rattle.ceu_legal.specs.Shape as shape
-use Rattle.ceu_legal.proofs.LeafFits.{DoesFit, acted_fits}
-use Rattle.ceu_legal.proofs.StepFits.{around_sound, unseated_around}
-use Rattle.ceu_legal.proofs.RunFits.{root_sound}
-use Rattle.ceu_living.specs.Instances.{pools_stand}
-use Rattle.ceu_living.proofs.Trees.{focus_stands, unplugged}
+-- A kill and a spawn change what stands beside the path: the one lowers what is left to pay, and the other raises it by what the instance costs.
+use Rattle.std.proofs.Common.{◌≡◌, refl, sym, ap, ◌∙◌, subst, ℕ, Bool, true, false, if◌then◌else◌, ◌==◌, nat_lt, inl, inr, List, arith}
+use Rattle.ceu_tree.specs.Residual.{Act, Seat, Residual, Instances, no_instance, instance}
+use Rattle.ceu_tree.specs.Focus.{Frame, OfBlock, OfInstance, OfOpen, OfLoop, OfCall, OfPar, Focus, Here, In, fill, plug, leaf}
+use Rattle.ceu_tree.specs.Costs.{Cost, nothing, plus}
+use Rattle.ceu_tree.specs.Step.{with_instance, seated_if, seat_frame, seated, unseated, unseat_frame, unseat}
 use Rattle.ceu_living.proofs.Spawns.{frame_without, frame_has, none_has, one_has}
-use Rattle.ceu_living.proofs.Rooms.{acted_room}
-use Rattle.ceu_living.proofs.Steps.{SpawnFine}
-use Rattle.ceu_living.proofs.Reactions.{room_fine}
 use Rattle.ceu_endings.specs.Counted.{all_counted, frame_counted, focus_counted}
-use Rattle.ceu_costs.specs.Ways.{ways}
-use Rattle.ceu_costs.specs.Due.{is_await, due, due_of_instances}
-use Rattle.ceu_costs.specs.Pays.{Within, Fewer, Pays, Leaving, Comes, frame_keeps, focus_keeps}
-use Rattle.ceu_costs.specs.Kept.{act_kept, CodesPay}
-use Rattle.ceu_costs.specs.Heads.{heads_reached, EmissionsPay}
-use Rattle.ceu_costs.specs.Whole.{PaidBy, WakingCosts}
-use Rattle.ceu_costs.proofs.Cost.{same, chain}
-use Rattle.ceu_costs.proofs.AtMost.{more_first, more_second, no_less, AtMost, itself, fill_more, block_more, then_more, more_then}
-use Rattle.ceu_costs.proofs.Opened.{quick_layer, quick_is, enter_layer, enter_is}
-use Rattle.ceu_costs.proofs.Through.{plug_pays, graft_pays}
-use Rattle.ceu_costs.proofs.Started.{StartsAt, DoesPay, ActCalls, acted_pays}
-use Rattle.ceu_costs.proofs.Turns.{leaf_starts, calls_known, answered_pays}
+use Rattle.ceu_costs.specs.Due.{due, due_of_instances}
+use Rattle.ceu_costs.specs.Pays.{Within, frame_keeps, focus_keeps}
+use Rattle.ceu_costs.proofs.Cost.{same}
+use Rattle.ceu_costs.proofs.AtMost.{more_second, no_less, AtMost, itself, fill_more, block_more, then_more}
 
 -- ---- a kill leaves an instance less beside the path
 
@@ -149,23 +115,3 @@ module _ (P : List Bool) (E N : List Cost) where
       subst (λ g. AtMost P E N (due P E N r) (fill (seat_frame seat r fr) (plug g x)) (fill fr (plug f x))) (sym (none_seated seat r f h.1)) (frame_more seat r fr (plug f x) h.0)
   seated_more seat r (In fr f) x (inr h) =
       subst (λ y. AtMost P E N (due P E N r) (fill y (plug (seated seat r f) x)) (fill fr (plug f x))) (sym (frame_seated seat r fr h.0)) (fill_more P E N (due P E N r) fr _ _ (seated_more seat r f x h.1))
-
-  -- ---- what the whole pays
-
-  pub paid_more : (n : ℕ) (p r : Residual) (x : Outcome) → Within (due P E N p) (due P E N r) → PaidBy P E N n p x → PaidBy P E N n r x
-  paid_more n p r (Goes g) l h = chain _ _ _ h l
-  paid_more n p r (Rests q) l h = chain _ _ _ h l
-  paid_more n p r (Raises q) l h = chain _ _ _ h l
-  paid_more n p r x l h = tt
-
-  no_more : (a b : Cost) → Within (plus nothing a) b → Within a b
-  no_more a b h = let h0 = h.turns in let h1 = h.opens in record { turns = omega (arith, h0); opens = omega (arith, h1) }
-
-  no_more_after : (a b : Cost) → Within a (plus nothing b) → Within a b
-  no_more_after a b h = let h0 = h.turns in let h1 = h.opens in record { turns = omega (arith, h0); opens = omega (arith, h1) }
-
-  pub paid_whole : (n : ℕ) (d : Part) (r : Residual) (x : Outcome) → Comes P E N n d r x → PaidBy P E N n r x
-  paid_whole n d r (Goes g) h = no_more _ _ h.costs
-  paid_whole n d r (Rests q) h = h.costs
-  paid_whole n d r (Raises q) h = h.costs
-  paid_whole n d r x h = tt

@@ -10,5 +10,6 @@ pub mod Started
 pub mod Turns
 pub mod AtMost
 pub mod Beyond
+pub mod Whole
 pub mod Places
 pub mod Runs

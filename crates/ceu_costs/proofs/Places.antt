@@ -10,7 +10,7 @@ use Rattle.ceu_tree.specs.Residual.{Act}
 use Rattle.ceu_tree.specs.Focus.{Frame, Focus, Here, In, leaf}
 use Rattle.ceu_tree.specs.Leaf.{Layer}
 use Rattle.ceu_tree.specs.Paths.{passes_from}
-use Rattle.ceu_legal.specs.Shape.{Part, ABlock, AStatement, AnEnd, opens_part, among_arms, FrameFits, around_statement, around_end, around_instance, around_part, around_turn, around_call, around_branch, Around, nothing_around, one_around, ActFits, begins, heads, goes_again, starts, finishes, ends}
+use Rattle.ceu_legal.specs.Shape.{Part, ABlock, AStatement, AnEnd, opens_part, among_arms, FrameFits, around_statement, around_end, around_instance, around_part, around_turn, around_call, around_branch, Around, nothing_around, one_around, ActFits, begins, heads, goes_again, starts, finishes, ends, program_part, TurnFits}
 use Rattle.ceu_costs.specs.Pays.{layer_keeps, frame_keeps, focus_keeps}
 use Rattle.ceu_costs.specs.Kept.{starts_kept, act_kept, inside_kept, block_kept, arm_kept, nodes_kept, arms_kept, blocks_kept, RulesKept}
 use denote.Hole.Carrier
@@ -122,3 +122,7 @@ module _ (K : Kernel) (h : RulesKept K) where
 
   pub leaf_at : {t : ℕ} (f : Focus Act) {d e : Part} → Around K t Act f d e → ActFits e (leaf f) → PlaceKeeps (passes_from [] K.codes) d → act_kept (passes_from [] K.codes) (leaf f)
   leaf_at f a b k = act_at _ b (focus_at f a k).1
+
+  -- wherever a trail of the program has its turn
+  pub turn_keeps : {t : ℕ} (f : Focus Act) → TurnFits K t (program_part K) f → focus_keeps (passes_from [] K.codes) f × act_kept (passes_from [] K.codes) (leaf f)
+  turn_keeps f t = ((focus_at f t.around h.body).0, leaf_at f t.around t.acts h.body)

@@ -1,5 +1,5 @@
 -- A step of a turn pays what it costs, and a turn that begins what it is counted with (this project's own).
-use Rattle.std.specs.Prelude.{◌≡◌, ◌≤◌, ℕ, suc, ◌+◌, Bool, List, Some}
+use Rattle.std.specs.Prelude.{◌≡◌, ◌≤◌, ℕ, suc, ◌+◌, Bool, List, [], Some}
 use Rattle.ceu_tree.specs.declared.kernel.Kernel.{Kernel}
 use Rattle.ceu_tree.specs.declared.kernel.KNode.{KNode}
 use Rattle.ceu_tree.specs.declared.kernel.KStmt.{out-KStmt}
@@ -8,6 +8,7 @@ use Rattle.ceu_tree.specs.Residual.{Program, Act, Start, Residual, Over, Run}
 use Rattle.ceu_tree.specs.Focus.{Frame, Focus, fill, plug, leaf, choose}
 use Rattle.ceu_tree.specs.World.{World}
 use Rattle.ceu_tree.specs.Wake.{runs_at}
+use Rattle.ceu_tree.specs.Paths.{passes_from}
 use Rattle.ceu_tree.specs.Costs.{Cost, bounds}
 use Rattle.ceu_tree.specs.Proper.{Proper}
 use Rattle.ceu_tree.specs.Around.{Outcome, up}
@@ -19,7 +20,7 @@ use Rattle.ceu_living.specs.Instances.{pools_stand, InstancesStand}
 use Rattle.ceu_endings.specs.Counted.{focus_counted}
 use Rattle.ceu_costs.specs.Due.{to_pay}
 use Rattle.ceu_costs.specs.Pays.{Within, Pays, Comes, focus_keeps}
-use Rattle.ceu_costs.specs.Kept.{act_kept, acts_inside, CodesPay}
+use Rattle.ceu_costs.specs.Kept.{act_kept, acts_inside, RulesKept, CodesPay}
 use Rattle.ceu_costs.specs.Heads.{EmissionsPay}
 use Rattle.ceu_costs.specs.Whole.{PaidBy, WakingCosts}
 use Rattle.ceu_costs.specs.Programs.{levels_opened, level_of}
@@ -72,6 +73,11 @@ AnyStepPays = (passing : List Bool) (events entering : List Cost) (K : Kernel) (
     → Proper K → TurnFits K (suc n) (program_part K) f → focus_counted f → InstancesStand (Turning n f w) → focus_keeps passing f → act_kept passing (leaf f)
     → CodesPay passing events entering K → EmissionsPay passing events entering K → WakingCosts passing events entering K
     → PaidBy passing events entering n (plug f (Run n (leaf f))) (stepped K n Program f w).outcome
+
+-- The rules that a program keeps are kept by each loop around a trail whose turn is on, and by the statement that it starts.
+abbrev pub RulesReach : Type 0
+RulesReach = (K : Kernel) (n : ℕ) (f : Focus Act)
+    → RulesKept K → TurnFits K (suc n) (program_part K) f → focus_keeps (passes_from [] K.codes) f × act_kept (passes_from [] K.codes) (leaf f)
 
 -- ---- the start, the turns that begin, and levels
 

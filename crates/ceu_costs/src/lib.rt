@@ -8,7 +8,7 @@
 //! an emission reaches (`EmissionsPay`, `WakingCosts`) cost: crates above show that of the tables of each proper program that breaks no rule.
 #![tactic(auto)]
 
-ghost use Rattle.ceu_costs.specs.Laws.{AnyStepPays, BootWithin, EmitsPay, FramesPay, KillsPay, LeavingPays, LevelBounded, ResumptionCounted, SpawnsPay, StepPays};
+ghost use Rattle.ceu_costs.specs.Laws.{AnyStepPays, BootWithin, EmitsPay, FramesPay, KillsPay, LeavingPays, LevelBounded, ResumptionCounted, RulesReach, SpawnsPay, StepPays};
 
 /// What is left of a part costs less by what a step paid, and may be left by no other way: so it is with the part around it.
 pub fn frames_pay()
@@ -44,6 +44,11 @@ pub fn emits_pay()
 /// So each step of a turn pays in the whole tree.
 pub fn any_step_pays()
     ensures { AnyStepPays }
+{}
+
+/// In a program that keeps the rules on loops and exits each loop around a trail whose turn is on, and the statement that it starts, keeps them.
+pub fn rules_reach()
+    ensures { RulesReach }
 {}
 
 /// The first reaction of a program begins within its bounds.
