@@ -1,5 +1,5 @@
 -- What an emission costs in a tree at most: for each open loop that the event paces one turn, and what the rest of its body enters (this project's own).
-use Rattle.std.specs.Prelude.{◌≡◌, ℕ, suc, pos, if◌then◌else◌, List, Option, Some, None}
+use Rattle.std.specs.Prelude.{◌≡◌, ℕ, suc, pos, Bool, if◌then◌else◌, List, Option, Some, None}
 use Rattle.ceu_tree.specs.declared.kernel.Kernel.{Kernel}
 use Rattle.ceu_tree.specs.declared.kernel.KNode.{KNode}
 use Rattle.ceu_tree.specs.declared.kernel.KStmt.{out-KStmt}
