@@ -1,3 +1,5 @@
 pub mod Halting
 pub mod Parts
 pub mod Loops
+pub mod Started
+pub mod Statements
