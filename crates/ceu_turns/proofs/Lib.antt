@@ -3,3 +3,5 @@ pub mod Parts
 pub mod Loops
 pub mod Started
 pub mod Statements
+pub mod Codes
+pub mod Places
