@@ -5,3 +5,4 @@ pub mod Started
 pub mod Statements
 pub mod Codes
 pub mod Places
+pub mod MidTurn

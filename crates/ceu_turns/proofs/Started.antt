@@ -182,16 +182,26 @@ module _ (K : Kernel) (n : ℕ) (quiet : Bool) where
     abbrev Ways : Layer → List Way
     Ways layer = quick_layer (passes_from [] K.codes) s.node layer
 
-    loop_begins : (k : KLoop) (b : KBlock) (is : out-KStmt s.stmt ≡ KStmt-F.Loop k b) → (quiet ≡ false → LoopKeeps (passes_from [] K.codes) s.node k b) → BlockHalts b → Begins (KStmt-F.Loop k b) (Ways (KStmt-F.Loop k b))
-    loop_begins k b is keeps h = go quiet refl (paced_body b) refl
-      where
-        whole : (k ≡ turns.Free → quiet ≡ false → goes_on s.node (quick_block (passes_from [] K.codes) b) ≡ false) → Begins (KStmt-F.Loop k b) (Ways (KStmt-F.Loop k b))
-        whole stands = loop_starts K n quiet s b (quick_block (passes_from [] K.codes) b) (quick_block (passes_from [] K.codes) b) (λ w i. i) (clear_halts b (λ e. (keeps e).clear) h) (λ e. (keeps e).breaks) k is stands
+    -- by which ways a turn of the loop leaves its body: where an event paces the loop, by none
+    pub record Turn (k : KLoop) (b : KBlock) : Type 0 where
+      pub ways : List Way
+      pub fewer : Fewer ways (quick_block (passes_from [] K.codes) b)
+      pub halts : Halts K n quiet (allowed quiet ways) (Here (Begin b))
+      pub stands : k ≡ turns.Free → quiet ≡ false → goes_on s.node ways ≡ false
 
-        go : (t : Bool) → quiet ≡ t → (o : Option ℕ) → paced_body b ≡ o → Begins (KStmt-F.Loop k b) (Ways (KStmt-F.Loop k b))
+    pub turn_of_loop : (k : KLoop) (b : KBlock) → (quiet ≡ false → LoopKeeps (passes_from [] K.codes) s.node k b) → BlockHalts b → Turn k b
+    turn_of_loop k b keeps h = go quiet refl (paced_body b) refl
+      where
+        whole : (k ≡ turns.Free → quiet ≡ false → goes_on s.node (quick_block (passes_from [] K.codes) b) ≡ false) → Turn k b
+        whole stands = record { ways = quick_block (passes_from [] K.codes) b; fewer = λ w i. i; halts = clear_halts b (λ e. (keeps e).clear) h; stands = stands }
+
+        go : (t : Bool) → quiet ≡ t → (o : Option ℕ) → paced_body b ≡ o → Turn k b
         go true q o z = whole (λ f e. absurd (cc))
         go false q None z = whole (λ f e. (keeps e).stands (ap constant_bound f) (ap (λ j. paced j b) f ∙ z))
-        go false q (Some x) z = loop_starts K n quiet s b (quick_block (passes_from [] K.codes) b) [] (λ w i. absurd i) (paced_halts q b x z) (λ e. (keeps e).breaks) k is (λ f e. refl)
+        go false q (Some x) z = record { ways = []; fewer = λ w i. absurd i; halts = paced_halts q b x z; stands = λ f e. refl }
+
+    loop_begins : (k : KLoop) (b : KBlock) (is : out-KStmt s.stmt ≡ KStmt-F.Loop k b) → (quiet ≡ false → LoopKeeps (passes_from [] K.codes) s.node k b) → BlockHalts b → Begins (KStmt-F.Loop k b) (Ways (KStmt-F.Loop k b))
+    loop_begins k b is keeps h = let t = turn_of_loop k b keeps h in loop_starts K n quiet s b (quick_block (passes_from [] K.codes) b) t.ways t.fewer t.halts (λ e. (keeps e).breaks) k is t.stands
 
     -- ---- pars
 
