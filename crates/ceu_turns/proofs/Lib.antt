@@ -6,3 +6,5 @@ pub mod Statements
 pub mod Codes
 pub mod Places
 pub mod MidTurn
+pub mod Over
+pub mod Ending

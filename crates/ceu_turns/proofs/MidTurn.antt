@@ -91,7 +91,7 @@ module _ (K : Kernel) (n : ℕ) (quiet : Bool) where
     takes_any : (k : KLoop) (is : out-KStmt s.stmt ≡ KStmt-F.Loop k b) (t : Turn K n quiet s k b) → LoopTakes K n quiet any s k b is t.ways
     takes_any k is t = record { inside = t.halts; breaks = λ node x e z m. tt; leaves = λ node x e m. tt }
 
-    counted_head : (k : KLoop) (is : out-KStmt s.stmt ≡ KStmt-F.Loop k b) (c : Counter) → Turn K n quiet s k b → counts k c ≡ true → turns_counted k c → HeadComes K n quiet any s k b is c
+    pub counted_head : (k : KLoop) (is : out-KStmt s.stmt ≡ KStmt-F.Loop k b) (c : Counter) → Turn K n quiet s k b → counts k c ≡ true → turns_counted k c → HeadComes K n quiet any s k b is c
     counted_head turns.Free is c t h m = free_turn K n quiet any s b t.ways is (takes_any turns.Free is t) (t.stands refl) c
     counted_head (turns.Times slot limit) is (Turns j) t h m = times_turn K n quiet any s b t.ways slot limit is (takes_any (turns.Times slot limit) is t) (limit - j) j (omega (arith, m))
     counted_head (turns.Times slot limit) is Free t h m = absurd (false≢true h)
@@ -106,7 +106,7 @@ module _ (K : Kernel) (n : ℕ) (quiet : Bool) where
     either true x y h k = h
     either false x y h k = k
 
-    quiet_head : quiet ≡ true → (k : KLoop) (is : out-KStmt s.stmt ≡ KStmt-F.Loop k b) (c : Counter) → Turn K n quiet s k b → HeadComes K n quiet any s k b is c
+    pub quiet_head : quiet ≡ true → (k : KLoop) (is : out-KStmt s.stmt ≡ KStmt-F.Loop k b) (c : Counter) → Turn K n quiet s k b → HeadComes K n quiet any s k b is c
     quiet_head q k is c t = go k is c t
       where
         on : (k : KLoop) (is : out-KStmt s.stmt ≡ KStmt-F.Loop k b) (c : Counter) → Turn K n quiet s k b → Halts K n quiet any (In (OfLoop s c) (Here (Begin b)))

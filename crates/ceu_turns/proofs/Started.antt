@@ -97,6 +97,9 @@ module _ (K : Kernel) (n : ℕ) (quiet : Bool) where
   EachArm [] = Unit {0}
   EachArm (a ∷ arms) = BlockHalts (out-KArm a).body × EachArm arms
 
+  abbrev pub StmtHalts : KNode → Type 0
+  StmtHalts s = Halts K n quiet (allowed quiet (quick_node (passes_from [] K.codes) s)) (Here (Start s))
+
   abbrev pub CodeHalts : ℕ → Type 0
   CodeHalts c = (k : KCode) → code_at c K.codes ≡ Some k → BlockHalts k.body
 

@@ -5,6 +5,7 @@ use Rattle.std.proofs.Common.{◌≡◌, refl, sym, ap, ◌∙◌, subst, ℕ, B
 use Rattle.std.proofs.lemmas.Bool.{and_parts, false≢true}
 use Rattle.ceu_tree.specs.declared.kernel.Kernel.{Kernel}
 use Rattle.ceu_tree.specs.declared.kernel.KCode.{KCode}
+use Rattle.ceu_tree.specs.declared.kernel.KNode.{KNode}
 use Rattle.ceu_tree.specs.declared.kernel.KLoop.{KLoop}
 use Rattle.ceu_tree.specs.declared.kernel.KLoop.TheVariants as turns
 use Rattle.ceu_tree.specs.declared.kernel.KArm.{KArm, KArm', out-KArm}
@@ -16,7 +17,7 @@ use Rattle.ceu_tree.specs.Proper.{Scope, LoopAim, with_decls, with_aim, with_tur
 use Rattle.ceu_costs.specs.Kept.{starts_kept, inside_kept, block_kept, arm_kept, nodes_kept, arms_kept, blocks_kept}
 use Rattle.ceu_turns.specs.Laws.{CodesLeave}
 use Rattle.ceu_turns.proofs.Parts.{EachHalts, begun_halts}
-use Rattle.ceu_turns.proofs.Started.{BlockHalts, EachBlock, EachArm, CodeHalts, Inside, layer_halts}
+use Rattle.ceu_turns.proofs.Started.{BlockHalts, EachBlock, EachArm, StmtHalts, CodeHalts, Inside, layer_halts}
 use denote.Hole.Carrier
 
 last_holds : (x y : Bool) → (x && y) ≡ true → y ≡ true
@@ -97,3 +98,6 @@ module _ (K : Kernel) (n : ℕ) (quiet ordered : Bool) (names : List (List ℕ))
       block_halts b (λ e. let o = ok e in record { scope = o.scope; body = o.body; holds = first_holds (block_ok K names o.scope b) (blocks_ok K names o.scope rest) o.holds }) (λ e. (h e).0),
       blocks_halt rest (λ e. let o = ok e in record { scope = o.scope; body = o.body; holds = last_holds (block_ok K names o.scope b) (blocks_ok K names o.scope rest) o.holds }) (λ e. (h e).1),
     )
+
+  pub stmt_halts : (s : KNode) → (ordered ≡ true → InBody (λ sc. stmt_ok K names sc s.node s.stmt)) → (quiet ≡ false → starts_kept (passes_from [] K.codes) s.node (out-KStmt s.stmt) × inside_kept (passes_from [] K.codes) s.stmt) → StmtHalts K n quiet s
+  stmt_halts s ok h = layer_halts K n quiet s leave (λ e. (h e).0) (inside_halts s.node s.stmt ok (λ e. (h e).1))
