@@ -144,5 +144,9 @@ module _ (K : Kernel) (w : World) (found : List Seated) where
     all_legal none_lives h t = tt
     all_legal (one_lives {seat = seat} k p e fit rest) h t = (tree_legal fit (Spawned seat.number) (λ b x. (h b x).0) t.0, all_legal rest (λ b x. (h b x).1) t.1)
 
+-- of any configuration that waits, with what holds of those of runs
+pub counters_are_legal : (K : Kernel) (r : Residual) (w : World) (found : List Seated) → ConfigFits K (Waiting r w) → CountersStand (Waiting r w) → each_loop (counter_typed w) Program r → each_loop (counter_legal K w found) Program r
+counters_are_legal K r w found t h y = tree_legal K w found t Program h y
+
 pub run_legal : RunCountersLegal
-run_legal K n xs r w found p e t = tree_legal K w found (subst (ConfigFits K) e (run_fits K p n xs)) Program (subst CountersStand e (run_all K p n xs)) t
+run_legal K n xs r w found p e y = counters_are_legal K r w found (subst (ConfigFits K) e (run_fits K p n xs)) (subst CountersStand e (run_all K p n xs)) y

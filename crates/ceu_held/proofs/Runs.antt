@@ -40,7 +40,7 @@ use Rattle.ceu_held.proofs.Reactions.{TreeLies, ConfigLies, next_lies, steps_lie
 use Rattle.ceu_held.proofs.Commands.{done_lies, run_lies}
 use Rattle.ceu_held.proofs.Known.{program_known}
 use Rattle.ceu_held.proofs.Fitting.{EachKind, each_lies, tree_fits}
-use Rattle.ceu_held.specs.Names.{agrees, all_agree, NamesHold}
+use Rattle.ceu_held.specs.Names.{names_agree, agrees, all_agree, NamesHold}
 use Rattle.ceu_held.proofs.NameRuns.{TreeNames, ConfigNames, next_names, steps_names}
 use Rattle.ceu_held.proofs.NameCommands.{done_names, run_names}
 use Rattle.ceu_held.proofs.NamesFit.{tree_names}
@@ -240,10 +240,15 @@ all_open : (K : Kernel) (r : Residual) (g : ℕ) (hs : List Held) → list_all (
 all_open K r g [] e = refl
 all_open K r g (h ∷ hs) e = let a = and_parts _ _ e in and_from _ _ (open_in K.codes g h r Program a.0) (all_open K r g hs a.1)
 
+-- of any configuration that waits, with what holds of those of runs
+pub slots_are_legal : (K : Kernel) (r : Residual) (w : World) → ValuesLie K (Waiting r w) → list_all (is_open_slot (open_slots K.codes r Program)) w.values ≡ true
+slots_are_legal K r w h = all_open K r w.given w.values h
+
+pub names_are_legal : (K : Kernel) (r : Residual) (w : World) → is_proper K ≡ true → ConfigFits K (Waiting r w) → ValuesLie K (Waiting r w) → NamesHold K (Waiting r w) → names_agree K w (seats r Program) r Program [] ≡ true
+names_are_legal K r w p t h m = tree_names K p w (seats r Program) (each_kind K p r w t h) (tree_tested K r w m) t (program_known K p) Program [] refl
+
 pub slots_legal : RunSlotsLegal
-slots_legal K n xs r w p e = all_open K r w.given w.values (subst (ValuesLie K) e (run_held K p n xs))
+slots_legal K n xs r w p e = slots_are_legal K r w (subst (ValuesLie K) e (run_held K p n xs))
 
 pub names_legal : RunNamesLegal
-names_legal K n xs r w p e =
-    let t : ConfigFits K (Waiting r w) = subst (ConfigFits K) e (run_fits K p n xs) in
-    tree_names K p w (seats r Program) (each_kind K p r w t (subst (ValuesLie K) e (run_held K p n xs))) (subst (ConfigNames K) e (run_names K p n xs)) t (program_known K p) Program [] refl
+names_legal K n xs r w p e = names_are_legal K r w p (subst (ConfigFits K) e (run_fits K p n xs)) (subst (ValuesLie K) e (run_held K p n xs)) (subst (NamesHold K) e (run_hold K p n xs))

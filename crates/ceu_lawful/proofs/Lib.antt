@@ -1,4 +1,4 @@
 pub mod Quiet
 pub mod Unfailed
 pub mod Trees
-pub mod Runs
+pub mod Lawful

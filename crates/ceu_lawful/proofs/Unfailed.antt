@@ -24,15 +24,8 @@ use Rattle.ceu_legal.proofs.Choice.{ChoiceFits, choice_fits}
 use Rattle.ceu_legal.proofs.UpFits.{Sound, layer_of}
 use Rattle.ceu_legal.proofs.StepFits.{Closed, around_sound, stepped_fits}
 use Rattle.ceu_legal.proofs.RunFits.{root_sound, turn_of_chosen, steps_fit, booted_fits, async_leaf, idle_turn_fits, done_fits}
+use Rattle.ceu_lawful.specs.Lawful.{Unfailed}
 use Rattle.ceu_lawful.proofs.Quiet.{stepped_calm, around_calm}
-
--- said of what goes on; an end and a fault are over
-abbrev Unfailed : Config → Type 0
-Unfailed (Turning n f w) = w.fault ≡ None
-Unfailed (Between n r w) = w.fault ≡ None
-Unfailed (Waiting r w) = w.fault ≡ None
-Unfailed (Ended v w) = Unit {0}
-Unfailed (Faulted e w) = Unit {0}
 
 -- ---- a reaction, which a failed finalizer stops
 
@@ -54,7 +47,7 @@ chosen_unfailed zero None r w h = h
 chosen_unfailed (suc n) None r w h = h
 
 module _ (K : Kernel) where
-  next_unfailed : (c : Config) → Unfailed c → Unfailed (next K c)
+  pub next_unfailed : (c : Config) → Unfailed c → Unfailed (next K c)
   unfolding next
   next_unfailed (Turning n f w) h = let m = stepped K n Program f w in stopped m.world (config_of n m.outcome m.world) (outcome_unfailed n m.outcome m.world)
   next_unfailed (Between n r w) h = chosen_unfailed n (choose Act (runs_at n) r) r w h
@@ -186,7 +179,7 @@ module _ (K : Kernel) where
     idles_unfailed k zero c t h = h
     idles_unfailed k (suc j) c t h = idles_unfailed k j (idle_turn K k c) (idle_turn_fits K proper k c t) (idle_unfailed k c t h)
 
-    done_unfailed : (k : ℕ) (x : Command) (c : Config) → ConfigFits K c → Unfailed c → Unfailed (done K k x c)
+    pub done_unfailed : (k : ℕ) (x : Command) (c : Config) → ConfigFits K c → Unfailed c → Unfailed (done K k x c)
     unfolding done
     done_unfailed k (Input event v) c t h = input_unfailed k event v c h
     done_unfailed k (Advance us) c t h = advance_unfailed k (us + 1) us c h

@@ -35,7 +35,7 @@ module _ (K : Kernel) (proper : is_proper K ≡ true) where
   pub run_stands : (n : ℕ) (xs : List Command) → InstancesStand (run K n xs)
   run_stands n xs = instances_stand K proper (run K n xs) (run_fits K proper n xs) (run_counts K proper n xs)
 
-numbers_are_legal : (r : Residual) (w : World) → NumbersStand r w → numbers_legal r w
+pub numbers_are_legal : (r : Residual) (w : World) → NumbersStand r w → numbers_legal r w
 numbers_are_legal r w h = and_from _ (nat_lt w.given (2 ^ 32)) (and_from _ _ (and_from _ _ (and_from _ _ (and_from _ _ h.differ h.given) h.live) h.seated) h.once) (lt-ltb w.given (2 ^ 32) h.below)
 
 pub run_legal : RunNumbersLegal

@@ -1,19 +1,26 @@
 -- The laws on well-typed stores.
-use Rattle.std.proofs.Common.{refl, subst, []}
-use Rattle.ceu_tree.specs.Residual.{Program}
-use Rattle.ceu_tree.specs.Legal.{seats}
+use Rattle.std.proofs.Common.{◌≡◌, refl, subst, true, List, []}
+use Rattle.ceu_tree.specs.declared.kernel.Kernel.{Kernel}
+use Rattle.ceu_tree.specs.Residual.{Program, Residual}
+use Rattle.ceu_tree.specs.World.{World}
+use Rattle.ceu_tree.specs.Legal.{Seated, seats}
+use Rattle.ceu_tree.specs.Proper.{is_proper}
 use Rattle.ceu_tree.specs.Run.{Waiting}
 use Rattle.ceu_legal.specs.Shape.{ConfigFits}
 use Rattle.ceu_legal.proofs.RunFits.{run_fits}
 use Rattle.ceu_held.proofs.Known.{program_known}
-use Rattle.ceu_held.proofs.Runs.{run_kinds, names_legal}
+use Rattle.ceu_held.specs.Held.{ValuesLie}
+use Rattle.ceu_held.specs.Names.{NamesHold}
+use Rattle.ceu_held.proofs.Runs.{run_held, run_hold, kinds_are, names_are_legal}
 use Rattle.ceu_counters.specs.Counters.{CountersStand}
 use Rattle.ceu_counters.specs.Ints.{tree_int}
-use Rattle.ceu_counters.proofs.Runs.{run_all, run_legal}
+use Rattle.ceu_counters.specs.Laws.{each_loop, counter_legal}
+use Rattle.ceu_counters.proofs.Runs.{run_all, counters_are_legal}
 use Rattle.ceu_counters.proofs.IntRuns.{waiting_typed}
 use Rattle.ceu_stores.specs.Ready.{tree_ready}
 use Rattle.ceu_stores.specs.Laws.{BootTyped, StepTyped, ReactionTyped, CommandKeepsTyped, RunTyped, RunCellsLegal, RunLoopsLegal}
 use Rattle.ceu_stores.specs.Stores.{StoresTyped}
+use Rattle.ceu_stores.specs.Cells.{cells_legal}
 use Rattle.ceu_stores.proofs.Reactions.{tested, next_typed, steps_typed}
 use Rattle.ceu_stores.proofs.Cells.{tree_legal}
 use Rattle.ceu_stores.proofs.Commands as commands
@@ -36,12 +43,15 @@ run_types K n xs p q = commands.run_typed K p n xs q (boot_types K)
 
 -- ---- in the words of legality
 
+-- of any configuration that waits, with what holds of those of runs
+pub cells_are_legal : (K : Kernel) (r : Residual) (w : World) → is_proper K ≡ true → ConfigFits K (Waiting r w) → ValuesLie K (Waiting r w) → NamesHold K (Waiting r w) → StoresTyped K (Waiting r w) → cells_legal K w (seats r Program) r Program [] ≡ true
+cells_are_legal K r w p t h m y = tree_legal K p w (seats r Program) (tested K p w y.values) t (program_known K p) Program [] (kinds_are K r w p t h) (names_are_legal K r w p t h m)
+
+pub loops_are_legal : (K : Kernel) (r : Residual) (w : World) (found : List Seated) → ConfigFits K (Waiting r w) → CountersStand (Waiting r w) → StoresTyped K (Waiting r w) → each_loop (counter_legal K w found) Program r
+loops_are_legal K r w found t h y = counters_are_legal K r w found t h (waiting_typed r w h y.ranges)
+
 pub cells_are : RunCellsLegal
-cells_are K n xs r w p q e =
-    let t : StoresTyped K (Waiting r w) = subst (StoresTyped K) e (run_types K n xs p q) in
-    tree_legal K p w (seats r Program) (tested K p w t.values) (subst (ConfigFits K) e (run_fits K p n xs)) (program_known K p) Program [] (run_kinds K n xs r w p e) (names_legal K n xs r w p e)
+cells_are K n xs r w p q e = cells_are_legal K r w p (subst (ConfigFits K) e (run_fits K p n xs)) (subst (ValuesLie K) e (run_held K p n xs)) (subst (NamesHold K) e (run_hold K p n xs)) (subst (StoresTyped K) e (run_types K n xs p q))
 
 pub loops_are : RunLoopsLegal
-loops_are K n xs r w found p q e =
-    let t : StoresTyped K (Waiting r w) = subst (StoresTyped K) e (run_types K n xs p q) in
-    run_legal K n xs r w found p e (waiting_typed r w (subst CountersStand e (run_all K p n xs)) t.ranges)
+loops_are K n xs r w found p q e = loops_are_legal K r w found (subst (ConfigFits K) e (run_fits K p n xs)) (subst CountersStand e (run_all K p n xs)) (subst (StoresTyped K) e (run_types K n xs p q))

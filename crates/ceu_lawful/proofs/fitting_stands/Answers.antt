@@ -1,4 +1,4 @@
-use Rattle.ceu_lawful.proofs.Runs.{fitting}
+use Rattle.ceu_lawful.proofs.Lawful.{fitting}
 use Rattle.ceu_lawful.proofs.fitting_stands.Goals as goal
 
 pub returns : goal.returns

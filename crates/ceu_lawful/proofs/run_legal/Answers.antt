@@ -1,4 +1,4 @@
-use Rattle.ceu_lawful.proofs.Runs.{lawful}
+use Rattle.ceu_lawful.proofs.Lawful.{lawful}
 use Rattle.ceu_lawful.proofs.run_legal.Goals as goal
 
 pub returns : goal.returns

@@ -1,4 +1,4 @@
-use Rattle.ceu_lawful.proofs.Runs.{unfailed}
+use Rattle.ceu_lawful.proofs.Lawful.{unfailed}
 use Rattle.ceu_lawful.proofs.run_unfailed.Goals as goal
 
 pub returns : goal.returns

@@ -1,0 +1,4 @@
+pub mod Exits
+pub mod Aims
+pub mod Rules
+pub mod Bodies

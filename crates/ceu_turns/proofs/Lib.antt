@@ -1,0 +1,10 @@
+pub mod Halting
+pub mod Parts
+pub mod Loops
+pub mod Started
+pub mod Statements
+pub mod Codes
+pub mod Places
+pub mod MidTurn
+pub mod Over
+pub mod Ending
