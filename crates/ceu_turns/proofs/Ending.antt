@@ -1,6 +1,5 @@
 -- Every turn of a program that breaks no rule on loops is over in the end, and so is every turn of an async.
-use Rattle.std.proofs.Common.{◌≡◌, refl, sym, ap, ◌∙◌, subst, ℕ, suc, Bool, true, false, List, [], ◌∷◌, ◌++◌, None}
-use Rattle.std.proofs.lemmas.Bool.{false≢true}
+use Rattle.std.proofs.Common.{◌≡◌, refl, sym, subst, ℕ, Bool, true, false, List, [], ◌∷◌, ◌++◌, None}
 use Rattle.ceu_tree.specs.declared.kernel.Kernel.{Kernel}
 use Rattle.ceu_tree.specs.declared.kernel.KLoop.{KLoop}
 use Rattle.ceu_tree.specs.declared.kernel.KNode.{KNode}
@@ -15,8 +14,8 @@ use Rattle.ceu_tree.specs.Around.{next_turn}
 use Rattle.ceu_tree.specs.Paths.{passes_from}
 use Rattle.ceu_tree.specs.Proper.{Scope, is_proper}
 use Rattle.ceu_tree.specs.Run.{Turning, steps, serve}
-use Rattle.ceu_legal.specs.Shape.{Part, ABlock, AStatement, AnEnd, program_part, block_scope, FrameFits, around_statement, around_end, around_instance, around_part, around_turn, around_call, around_branch, Around, nothing_around, one_around, ActFits, begins, heads, goes_again, starts, finishes, ends, ConfigFits}
-use Rattle.ceu_legal.proofs.Static.{names_of, stmt_static}
+use Rattle.ceu_legal.specs.Shape.{Part, ABlock, AStatement, FrameFits, around_statement, around_end, around_instance, around_part, around_turn, around_call, around_branch, Around, nothing_around, one_around, ActFits, begins, heads, goes_again, starts, finishes, ends, ConfigFits}
+use Rattle.ceu_legal.proofs.Static.{names_of}
 use Rattle.ceu_legal.proofs.UpFits.{Sound, frame_sound}
 use Rattle.ceu_legal.proofs.RunFits.{root_sound}
 use Rattle.ceu_endings.specs.Counted.{layer_counted, frame_counted, focus_counted, Counted}
@@ -26,10 +25,10 @@ use Rattle.ceu_costs.specs.Kept.{starts_kept, block_kept, RulesKept}
 use Rattle.ceu_costs.proofs.Places.{PlaceKeeps}
 use Rattle.ceu_costs.proofs.Places as places
 use Rattle.ceu_turns.specs.Laws.{CodesLeave, is_finished}
-use Rattle.ceu_turns.proofs.Halting.{Halts, Comes, halts_more}
+use Rattle.ceu_turns.proofs.Halting.{Halts, halts_more}
 use Rattle.ceu_turns.proofs.Parts.{any, EachHalts}
 use Rattle.ceu_turns.proofs.Started.{BlockHalts, CodeHalts, StmtHalts, turn_of_loop}
-use Rattle.ceu_turns.proofs.Statements.{InBody, block_each, block_halts, stmt_halts}
+use Rattle.ceu_turns.proofs.Statements.{block_each, block_halts, stmt_halts}
 use Rattle.ceu_turns.proofs.Codes.{code_halts}
 use Rattle.ceu_turns.proofs.MidTurn.{Comes_any, ActReady, FrameReady, FocusReady, focus_halts, counted_head, quiet_head}
 use Rattle.ceu_turns.proofs.Over.{turn_over, serve_over}
