@@ -28,9 +28,6 @@ no_less k a = record { turns = omega arith; opens = omega arith }
 none_then : (k a b c : Cost) → Within a (plus nothing b) → Within b (plus k c) → Within a (plus k c)
 none_then k a b c h g = let h0 = h.turns in let h1 = h.opens in let g0 = g.turns in let g1 = g.opens in record { turns = omega (arith, h0, g0); opens = omega (arith, h1, g1) }
 
-then_none : (k a b c : Cost) → Within a (plus k b) → Within b (plus nothing c) → Within a (plus k c)
-then_none k a b c h g = let h0 = h.turns in let h1 = h.opens in let g0 = g.turns in let g1 = g.opens in record { turns = omega (arith, h0, g0); opens = omega (arith, h1, g1) }
-
 module _ (P : List Bool) (E N : List Cost) where
   pub record AtMost (k : Cost) (q r : Residual) : Type 0 where
     pub whole : Within (due P E N q) (plus k (due P E N r))
@@ -140,17 +137,6 @@ module _ (P : List Bool) (E N : List Cost) where
     over_same = h.over_same ∙ g.over_same;
     head_same = h.head_same ∙ g.head_same;
     head = none_then k _ _ _ h.head g.head;
-    await_same = h.await_same ∙ g.await_same;
-    turn_same = h.turn_same ∙ g.turn_same;
-  }
-
-  pub more_then : (k : Cost) (p q r : Residual) → AtMost k p q → AtMost nothing q r → AtMost k p r
-  more_then k p q r h g = record {
-    whole = then_none k _ _ _ h.whole g.whole;
-    ways_same = h.ways_same ∙ g.ways_same;
-    over_same = h.over_same ∙ g.over_same;
-    head_same = h.head_same ∙ g.head_same;
-    head = then_none k _ _ _ h.head g.head;
     await_same = h.await_same ∙ g.await_same;
     turn_same = h.turn_same ∙ g.turn_same;
   }

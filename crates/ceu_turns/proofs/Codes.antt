@@ -1,8 +1,6 @@
 -- The bodies of all codes: each awaits codes above it alone.
-use Rattle.std.proofs.Common.{◌≡◌, refl, ◌<◌, ℕ, zero, suc, ◌+◌, nat_lt, Bool, true, false, Some, arith, ltb-true}
+use Rattle.std.proofs.Common.{◌≡◌, refl, ◌<◌, ℕ, zero, suc, Bool, true, false, Some, arith, ltb-true}
 use Rattle.ceu_tree.specs.declared.kernel.Kernel.{Kernel}
-use Rattle.ceu_tree.specs.declared.kernel.KCode.{KCode}
-use Rattle.ceu_tree.specs.Leaf.{code_at}
 use Rattle.ceu_tree.specs.Proper.{is_proper}
 use Rattle.ceu_legal.specs.Shape.{code_scope}
 use Rattle.ceu_legal.proofs.Static.{names_of, code_static}

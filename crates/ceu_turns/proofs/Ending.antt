@@ -1,6 +1,5 @@
 -- Every turn of a program that breaks no rule on loops is over in the end, and so is every turn of an async.
-use Rattle.std.proofs.Common.{◌≡◌, refl, sym, ap, ◌∙◌, subst, ℕ, suc, Bool, true, false, List, [], ◌∷◌, ◌++◌, None}
-use Rattle.std.proofs.lemmas.Bool.{false≢true}
+use Rattle.std.proofs.Common.{◌≡◌, refl, sym, subst, ℕ, Bool, true, false, List, [], ◌∷◌, ◌++◌, None}
 use Rattle.ceu_tree.specs.declared.kernel.Kernel.{Kernel}
 use Rattle.ceu_tree.specs.declared.kernel.KLoop.{KLoop}
 use Rattle.ceu_tree.specs.declared.kernel.KNode.{KNode}
@@ -15,21 +14,22 @@ use Rattle.ceu_tree.specs.Around.{next_turn}
 use Rattle.ceu_tree.specs.Paths.{passes_from}
 use Rattle.ceu_tree.specs.Proper.{Scope, is_proper}
 use Rattle.ceu_tree.specs.Run.{Turning, steps, serve}
-use Rattle.ceu_legal.specs.Shape.{Part, ABlock, AStatement, AnEnd, program_part, block_scope, FrameFits, around_statement, around_end, around_instance, around_part, around_turn, around_call, around_branch, Around, nothing_around, one_around, ActFits, begins, heads, goes_again, starts, finishes, ends, ConfigFits}
-use Rattle.ceu_legal.proofs.Static.{names_of, stmt_static}
+use Rattle.ceu_legal.specs.Shape.{Part, ABlock, AStatement, FrameFits, around_statement, around_end, around_instance, around_part, around_turn, around_call, around_branch, Around, nothing_around, one_around, ActFits, begins, heads, goes_again, starts, finishes, ends, ConfigFits}
+use Rattle.ceu_legal.proofs.Static.{names_of}
 use Rattle.ceu_legal.proofs.UpFits.{Sound, frame_sound}
 use Rattle.ceu_legal.proofs.RunFits.{root_sound}
 use Rattle.ceu_endings.specs.Counted.{layer_counted, frame_counted, focus_counted, Counted}
 use Rattle.ceu_endings.specs.Laws.{is_turning}
 use Rattle.ceu_costs.specs.Pays.{LoopKeeps}
 use Rattle.ceu_costs.specs.Kept.{starts_kept, block_kept, RulesKept}
+use Rattle.ceu_costs.proofs.Places.{PlaceKeeps}
+use Rattle.ceu_costs.proofs.Places as places
 use Rattle.ceu_turns.specs.Laws.{CodesLeave, is_finished}
-use Rattle.ceu_turns.proofs.Halting.{Halts, Comes, halts_more}
+use Rattle.ceu_turns.proofs.Halting.{Halts, halts_more}
 use Rattle.ceu_turns.proofs.Parts.{any, EachHalts}
 use Rattle.ceu_turns.proofs.Started.{BlockHalts, CodeHalts, StmtHalts, turn_of_loop}
-use Rattle.ceu_turns.proofs.Statements.{InBody, block_each, block_halts, stmt_halts}
+use Rattle.ceu_turns.proofs.Statements.{block_each, block_halts, stmt_halts}
 use Rattle.ceu_turns.proofs.Codes.{code_halts}
-use Rattle.ceu_turns.proofs.Places.{LayerKept, layer_kept, PlaceKept, frame_kept}
 use Rattle.ceu_turns.proofs.MidTurn.{Comes_any, ActReady, FrameReady, FocusReady, focus_halts, counted_head, quiet_head}
 use Rattle.ceu_turns.proofs.Over.{turn_over, serve_over}
 
@@ -49,14 +49,14 @@ module _ (K : Kernel) (n : ℕ) (proper : is_proper K ≡ true) (leave : CodesLe
   each_rest [] s rest h = h.1
   each_rest (x ∷ before) s rest h = each_rest before s rest h.1
 
-  stmt_at : (sc : Scope) (s : KNode) → Sound K proper (AStatement sc s) → PlaceKept (passes_from [] K.codes) (AStatement sc s) → Halts K n false any (Here (Start s))
+  stmt_at : (sc : Scope) (s : KNode) → Sound K proper (AStatement sc s) → PlaceKeeps (passes_from [] K.codes) (AStatement sc s) → Halts K n false any (Here (Start s))
   stmt_at sc s h k = halts_more K n false _ any (Here (Start s)) (λ w i. tt)
       (stmt_halts K n false true (names_of K) sc.code (λ e. leave) (λ e. refl) (λ c a. codes_halt c) s (λ e. record { scope = sc; body = refl; holds = h }) (λ e. k))
 
   loop_at : (s : KNode) (c : Counter) (k : KLoop) (b : KBlock) → out-KStmt s.stmt ≡ KStmt-F.Loop k b → starts_kept (passes_from [] K.codes) s.node (out-KStmt s.stmt) → LoopKeeps (passes_from [] K.codes) s.node k b
   loop_at s c k b q h = subst (starts_kept (passes_from [] K.codes) s.node) q h
 
-  frame_at : {t : ℕ} {fr : Frame} {d e : Part} → FrameFits K t fr d e → Sound K proper d → PlaceKept (passes_from [] K.codes) d → Sound K proper e → PlaceKept (passes_from [] K.codes) e → frame_counted fr → FrameReady K n false fr
+  frame_at : {t : ℕ} {fr : Frame} {d e : Part} → FrameFits K t fr d e → Sound K proper d → PlaceKeeps (passes_from [] K.codes) d → Sound K proper e → PlaceKeeps (passes_from [] K.codes) e → frame_counted fr → FrameReady K n false fr
   frame_at (around_statement {turn = turn} {sc = sc} {b = b} {rest = rest} {s = s} done q z i) h k m j c = each_rest done s rest (subst (EachHalts K n false (passes_from [] K.codes)) q (each_at sc b turn h k))
   frame_at (around_end z i) h k m j c = tt
   frame_at (around_instance done l q z i x y p o) h k m j c = tt
@@ -67,7 +67,7 @@ module _ (K : Kernel) (n : ℕ) (proper : is_proper K ≡ true) (leave : CodesLe
   frame_at (around_call l es g t r q o) h k m j c = tt
   frame_at (around_branch l slot bs b cs q x y) h k m j c = tt
 
-  act_at : {d : Part} {a : Act} → ActFits d a → Sound K proper d → PlaceKept (passes_from [] K.codes) d → ActReady K n false a
+  act_at : {d : Part} {a : Act} → ActFits d a → Sound K proper d → PlaceKeeps (passes_from [] K.codes) d → ActReady K n false a
   act_at (begins {turn = turn} {sc = sc} {b = b}) h k = block_at sc b turn h k
   act_at heads h k = tt
   act_at goes_again h k = tt
@@ -75,12 +75,12 @@ module _ (K : Kernel) (n : ℕ) (proper : is_proper K ≡ true) (leave : CodesLe
   act_at (finishes p) h k = tt
   act_at ends h k = tt
 
-  focus_at : {t : ℕ} (f : Focus Act) {d e : Part} → Around K t Act f d e → ActFits e (leaf f) → Sound K proper d → PlaceKept (passes_from [] K.codes) d → focus_counted f → FocusReady K n false f
+  focus_at : {t : ℕ} (f : Focus Act) {d e : Part} → Around K t Act f d e → ActFits e (leaf f) → Sound K proper d → PlaceKeeps (passes_from [] K.codes) d → focus_counted f → FocusReady K n false f
   unfolding focus_counted
   focus_at (Here a) nothing_around p h k c = act_at p h k
   focus_at (In fr f) (one_around x more) p h k c =
       let m = frame_sound K proper x h in
-      let j = frame_kept kept x k in
+      let j = (places.focus_at K kept (In fr (Here AtEnd)) (one_around x nothing_around) k).1 in
       (frame_at x h k m j c.0, focus_at f more p m j c.1)
 
 pub turn_ends : (K : Kernel) (n : ℕ) (f : Focus Act) (w : World) → RulesKept K → CodesLeave K → ConfigFits K (Turning n f w) → Counted (Turning n f w) → (count : ℕ) × (is_turning (steps K count (Turning n f w)) ≡ false)

@@ -1,11 +1,10 @@
 -- A step of a part by itself, in the parts around it, and turns of a part that are over in the end, whatever the variables hold.
 --
 -- In a turn that a part is in by itself the leaf may read any world, and so may the parts around it: that forgets more than a turn does.
-use Rattle.std.proofs.Common.{◌≡◌, refl, sym, ap, ◌∙◌, subst, ℕ, Bool, true, false, ◌&&◌, Option, Some, None}
-use Rattle.std.proofs.lemmas.Bool.{false≢true}
+use Rattle.std.proofs.Common.{◌≡◌, refl, sym, ap, ◌∙◌, subst, ℕ, Bool, false, ◌&&◌, Option, Some, None}
 use Rattle.ceu_tree.specs.declared.kernel.Kernel.{Kernel}
 use Rattle.ceu_tree.specs.Residual.{Body, Act, Over}
-use Rattle.ceu_tree.specs.Focus.{Frame, Focus, Here, In, plug, graft, leaf, body_in}
+use Rattle.ceu_tree.specs.Focus.{Frame, Focus, In, plug, graft, leaf, body_in}
 use Rattle.ceu_tree.specs.World.{World}
 use Rattle.ceu_tree.specs.Leaf as does
 use Rattle.ceu_tree.specs.Leaf.{Does, acted}

@@ -4,7 +4,6 @@ pub mod Loops
 pub mod Started
 pub mod Statements
 pub mod Codes
-pub mod Places
 pub mod MidTurn
 pub mod Over
 pub mod Ending

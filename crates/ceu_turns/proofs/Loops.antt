@@ -1,5 +1,5 @@
 -- The turns of a loop that a turn of a trail begins: it comes to the loop's end, or leaves it, after some number of them.
-use Rattle.std.proofs.Common.{◌≡◌, refl, sym, ap, ◌∙◌, subst, ℕ, zero, suc, ◌+◌, ℤ, pos, ◌+ℤ◌, ◌-ℤ◌, int_lt, Bool, true, false, if◌then◌else◌, ◌==◌, ◌&&◌, ◌||◌, not, List, [], ◌∷◌, ◌++◌, Option, Some, None, Result, Ok, Err, arith, eqb-true}
+use Rattle.std.proofs.Common.{◌≡◌, refl, sym, ap, ◌∙◌, subst, ℕ, zero, suc, ◌+◌, ℤ, pos, ◌+ℤ◌, ◌-ℤ◌, int_lt, Bool, true, false, if◌then◌else◌, ◌==◌, ◌&&◌, ◌||◌, not, List, Option, Some, None, Result, Ok, Err, arith, eqb-true}
 use Rattle.std.proofs.lemmas.Bool.{ne_eqb, eqb-false, false≢true}
 use Rattle.std.specs.List.{list_any}
 use Rattle.ceu_base.specs.declared.kinds.Pos.{Pos}
@@ -17,8 +17,8 @@ use Rattle.ceu_tree.specs.Focus.{OfLoop, Focus, Here, In}
 use Rattle.ceu_tree.specs.World.{World}
 use Rattle.ceu_tree.specs.Expressions.{value_of}
 use Rattle.ceu_tree.specs.Leaf.{Exit, Escape, Break, Continue, Done, or_fails, loop_reached}
-use Rattle.ceu_tree.specs.Around.{Outcome, Goes, Rests, Raises, Fails, Past, Registers, AtBlockEnd, AtLoopHead, Ends, Leaves, Moved, turn_of, next_turn, loop_left, through, up}
-use Rattle.ceu_tree.specs.Paths.{Way, ToEnd, ToEscape, ToBreak, ToContinue, is_end, is_escape, is_break, is_continue, has_end, constant_bound, is_range, runs_out, outer_ways, loop_ways, quick_block}
+use Rattle.ceu_tree.specs.Around.{Outcome, Goes, AtLoopHead, Ends, Leaves, Moved, turn_of, next_turn, loop_left, through, up}
+use Rattle.ceu_tree.specs.Paths.{Way, ToEnd, ToEscape, ToBreak, ToContinue, is_end, is_escape, is_break, is_continue, has_end, constant_bound, is_range, runs_out, outer_ways, loop_ways}
 use Rattle.ceu_endings.specs.Counted.{turns_left}
 use Rattle.ceu_endings.proofs.Turns.{exactly, turn_taken, turns_over, turns_begin_with}
 use Rattle.ceu_costs.specs.Ways.{goes_on}

@@ -1,5 +1,5 @@
 -- A turn is over in the end wherever in it the trail is, if what is left of each part around it is.
-use Rattle.std.proofs.Common.{◌≡◌, refl, sym, ap, ◌∙◌, subst, ◌≤◌, ℕ, zero, suc, ◌+◌, ◌-◌, ℤ, pos, ◌+ℤ◌, int_lt, Bool, true, false, if◌then◌else◌, ◌==◌, List, [], ◌∷◌, Option, Some, None, arith}
+use Rattle.std.proofs.Common.{◌≡◌, refl, ℕ, ◌+◌, ◌-◌, pos, ◌+ℤ◌, int_lt, Bool, true, false, if◌then◌else◌, ◌==◌, List, [], arith}
 use Rattle.std.proofs.lemmas.Bool.{false≢true}
 use Rattle.ceu_tree.specs.declared.kernel.Kernel.{Kernel}
 use Rattle.ceu_tree.specs.declared.kernel.KLoop.{KLoop}
@@ -11,9 +11,9 @@ use Rattle.ceu_tree.specs.declared.kernel.KStmt.TheOpen.{KStmt-F}
 use Rattle.ceu_tree.specs.Residual.{Body, Act, Begin, Start, Finish, AtEnd, AtHead, Again, Counter, Free, Turns, Upward}
 use Rattle.ceu_tree.specs.Focus.{Frame, OfBlock, OfInstance, OfOpen, OfLoop, OfCall, OfPar, Focus, Here, In}
 use Rattle.ceu_tree.specs.World.{World}
-use Rattle.ceu_tree.specs.Leaf.{Layer, Exit, Escape, Break, Continue}
-use Rattle.ceu_tree.specs.Around.{Outcome, Goes, Rests, Raises, Fails, Past, Registers, AtBlockEnd, AtLoopHead, Ends, Leaves, Moved, turn_of, next_turn, loop_left, through, up}
-use Rattle.ceu_tree.specs.Paths.{Way, passes_from}
+use Rattle.ceu_tree.specs.Leaf.{Exit, Escape, Break, Continue}
+use Rattle.ceu_tree.specs.Around.{Outcome, Goes, AtLoopHead, Ends, Leaves, Moved, next_turn, loop_left, through, up}
+use Rattle.ceu_tree.specs.Paths.{passes_from}
 use Rattle.ceu_legal.specs.Shape.{counts}
 use Rattle.ceu_endings.specs.Counted.{turns_left, turns_counted}
 use Rattle.ceu_turns.proofs.Halting.{LeftAt, Halts, Comes, halts_of, halts_under, halts_more}

@@ -1,18 +1,16 @@
 -- A turn that is over in the end by itself is over in the whole program, and in an async.
-use Rattle.std.proofs.Common.{◌≡◌, refl, sym, ap, ◌∙◌, subst, ℕ, zero, suc, ◌&&◌, ◌==◌, if◌then◌else◌, Bool, true, false, Option, Some, None}
+use Rattle.std.proofs.Common.{◌≡◌, refl, ℕ, suc, ◌&&◌, ◌==◌, if◌then◌else◌, Bool, true, false, Option, Some, None}
 use Rattle.ceu_base.specs.declared.kinds.Pos.{Pos}
 use Rattle.ceu_base.specs.declared.kinds.Fault.{Fault}
 use Rattle.ceu_base.specs.declared.kinds.Mark.TheVariants as mark
 use Rattle.ceu_tree.specs.declared.kernel.Kernel.{Kernel}
-use Rattle.ceu_tree.specs.declared.kernel.KNode.{KNode}
-use Rattle.ceu_tree.specs.declared.kernel.KCode.{KCode}
-use Rattle.ceu_tree.specs.Residual.{Body, Program, Act, Again, Residual, Run}
+use Rattle.ceu_tree.specs.Residual.{Body, Program, Act, Again, Run}
 use Rattle.ceu_tree.specs.Focus.{Focus, plug, leaf, body_of}
 use Rattle.ceu_tree.specs.World.{World, NotSet, marked, set_alias}
 use Rattle.ceu_tree.specs.Leaf as does
 use Rattle.ceu_tree.specs.Leaf.{Does, acted}
-use Rattle.ceu_tree.specs.Around.{Outcome, Goes, Rests, Raises, Fails, Past, Registers, AtBlockEnd, AtLoopHead, Ends, Leaves, Moved, moved, taken, answered}
-use Rattle.ceu_tree.specs.Step.{unseat, killed, does_in, stepped, free_place, spawned, spawned_at}
+use Rattle.ceu_tree.specs.Around.{Outcome, Goes, Rests, Raises, Fails, Past, Registers, AtBlockEnd, AtLoopHead, Ends, Leaves, Moved, taken, answered}
+use Rattle.ceu_tree.specs.Step.{unseat, killed, does_in, stepped, free_place, spawned_at}
 use Rattle.ceu_tree.specs.Run.{Config, Turning, Faulted, config_of, unless_failed, next, steps, is_again, Served, Turned, Done, Failed, serve}
 use Rattle.ceu_endings.specs.Laws.{is_turning}
 use Rattle.ceu_turns.specs.Laws.{is_finished}

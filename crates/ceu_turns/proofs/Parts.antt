@@ -1,22 +1,22 @@
 -- Turns in blocks, in do, if and awaited code, and in pars: on which ways they leave them.
-use Rattle.std.proofs.Common.{◌≡◌, refl, sym, ap, ◌∙◌, subst, ℕ, Bool, true, false, if◌then◌else◌, ◌&&◌, ◌==◌, List, [], ◌∷◌, Option, Some, None, inl, inr, ◌⊎◌}
+use Rattle.std.proofs.Common.{◌≡◌, refl, sym, subst, ℕ, Bool, true, false, if◌then◌else◌, ◌==◌, List, [], ◌∷◌, Option, Some, None, inl, inr, ◌⊎◌}
 use Rattle.ceu_tree.specs.declared.kernel.Kernel.{Kernel}
 use Rattle.ceu_tree.specs.declared.kernel.ParKind.{ParKind}
 use Rattle.ceu_tree.specs.declared.kernel.ParKind.TheVariants as par
 use Rattle.ceu_tree.specs.declared.kernel.KNode.{KNode}
 use Rattle.ceu_tree.specs.declared.kernel.KBlock.{KBlock, out-KBlock}
 use Rattle.ceu_tree.specs.declared.kernel.KStmt.{out-KStmt}
-use Rattle.ceu_tree.specs.Residual.{Body, Act, Begin, Start, AtEnd, Over, Par, Branches, no_branch, branch, Instances, no_instance}
+use Rattle.ceu_tree.specs.Residual.{Body, Act, Begin, Start, Over, Par, Branches, branch, Instances, no_instance}
 use Rattle.ceu_tree.specs.Focus.{Frame, OfBlock, OfOpen, OfCall, OfPar, Focus, Here, In, join}
 use Rattle.ceu_tree.specs.World.{World}
-use Rattle.ceu_tree.specs.Leaf.{Exit, Escape, Break, Continue, next_of, rest_of, branches_from}
-use Rattle.ceu_tree.specs.Around.{Outcome, Goes, Rests, Raises, Fails, Past, Registers, AtBlockEnd, AtLoopHead, Ends, Leaves, all_over, kind_of, moved, rejoined, body_left, open_left, through, up}
+use Rattle.ceu_tree.specs.Leaf.{Exit, next_of, rest_of}
+use Rattle.ceu_tree.specs.Around.{Outcome, Goes, Rests, Past, Registers, AtBlockEnd, Ends, Leaves, all_over, kind_of, moved, rejoined, body_left, open_left, through, up}
 use Rattle.ceu_tree.specs.Step.{unseat_frame}
-use Rattle.ceu_tree.specs.Paths.{Way, ToEnd, par_ways, seq_ways, gathered, all_blocks_end, quick_node, quick_block, quick_list}
+use Rattle.ceu_tree.specs.Paths.{Way, ToEnd, seq_ways, quick_node, quick_block, quick_list}
 use Rattle.ceu_tree.proofs.PathLaws.{quick_of_block}
 use Rattle.ceu_costs.specs.Ways.{out_of}
 use Rattle.ceu_costs.specs.Pays.{IsOf, Fewer, way_of}
-use Rattle.ceu_costs.proofs.WayLists.{sub_out, out_end, out_own, out_other, par_exit}
+use Rattle.ceu_costs.proofs.WayLists.{sub_out, out_end, out_own, out_other}
 use Rattle.ceu_costs.proofs.Steps.{seq_then, seq_exit}
 use Rattle.ceu_turns.proofs.Halting.{LeftAt, Halts, Comes, halts_of, halts_in, halts_under, halts_more}
 

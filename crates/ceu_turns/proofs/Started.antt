@@ -16,8 +16,8 @@ use Rattle.ceu_tree.specs.declared.kernel.KNode.{KNode}
 use Rattle.ceu_tree.specs.declared.kernel.KBlock.{KBlock, out-KBlock}
 use Rattle.ceu_tree.specs.declared.kernel.KStmt.{KStmt, out-KStmt, AwaitEvent}
 use Rattle.ceu_tree.specs.declared.kernel.KStmt.TheOpen.{KStmt-F}
-use Rattle.ceu_tree.specs.Residual.{Body, Act, Begin, Start, Over, branch, no_branch, no_instance}
-use Rattle.ceu_tree.specs.Focus.{OfBlock, OfOpen, OfCall, OfPar, Focus, Here, In}
+use Rattle.ceu_tree.specs.Residual.{Body, Begin, Start, Over, branch, no_branch, no_instance}
+use Rattle.ceu_tree.specs.Focus.{OfBlock, OfOpen, Here, In}
 use Rattle.ceu_tree.specs.World.{World, look, Cell, Holds, NotSet, Names}
 use Rattle.ceu_tree.specs.Expressions.{names_living, value_of, value_if, values_of}
 use Rattle.ceu_tree.specs.Leaf.{Layer, Does, Kills, Passes, code_at, chosen_part, branches_from, opened, done, or_fails, called, spawning, killing, started, next_of, rest_of}
@@ -29,7 +29,7 @@ use Rattle.ceu_costs.specs.Ways.{leads_to, outward, out_of, goes_on}
 use Rattle.ceu_costs.specs.Pays.{IsOf, Fewer, way_of, LoopKeeps}
 use Rattle.ceu_costs.specs.Starts.{BlockClear, PartKeeps, arms_keep, par_keeps}
 use Rattle.ceu_costs.specs.Kept.{starts_kept}
-use Rattle.ceu_costs.proofs.WayLists.{among_case, among_left, among_right, any_among, any_some, or_case, or_sub, filter_in, filter_out, end_here, ends, sub_end, par_exit}
+use Rattle.ceu_costs.proofs.WayLists.{among_case, among_left, among_right, any_among, any_some, or_sub, filter_in, filter_out, end_here, ends, sub_end, par_exit}
 use Rattle.ceu_costs.proofs.LoopSteps.{clear_fewer}
 use Rattle.ceu_costs.proofs.Opened.{quick_layer, quick_is, quick_arm_is}
 use Rattle.ceu_turns.specs.Laws.{CodesLeave}

@@ -1,7 +1,7 @@
 -- From the start of each statement and block of a program the turn is over in the end, and leaves it on its ways.
 --
 -- With `ordered` the codes that may be awaited are those above the body that the place is in.
-use Rattle.std.proofs.Common.{◌≡◌, refl, sym, ap, ◌∙◌, subst, ℕ, Bool, true, false, ◌&&◌, List, [], ◌∷◌, Option, Some, None}
+use Rattle.std.proofs.Common.{◌≡◌, refl, sym, ◌∙◌, subst, ℕ, Bool, true, false, ◌&&◌, List, [], Option, Some, None}
 use Rattle.std.proofs.lemmas.Bool.{and_parts, false≢true}
 use Rattle.ceu_tree.specs.declared.kernel.Kernel.{Kernel}
 use Rattle.ceu_tree.specs.declared.kernel.KCode.{KCode}
@@ -57,7 +57,7 @@ module _ (K : Kernel) (n : ℕ) (quiet ordered : Bool) (names : List (List ℕ))
     inside_halts node (Do t b) ok h = block_halts b (λ e. let o = ok e in record { scope = with_aim (do_aim K node t) o.scope; body = o.body; holds = last_holds _ (block_ok K names (with_aim (do_aim K node t) o.scope) b) o.holds }) h
     inside_halts node (If' x arms last) ok h = (
       subst (EachArm K n quiet) (sym (items_shown-the_row-KArm-0 x arms))
-      (arms_halt arms (λ e. let o = ok e in record { scope = o.scope; body = o.body; holds = last_holds _ (arms_ok K names o.scope arms) (first_holds _ (block_ok K names o.scope last) o.holds) }) (λ e. (h e).0)),
+          (arms_halt arms (λ e. let o = ok e in record { scope = o.scope; body = o.body; holds = last_holds _ (arms_ok K names o.scope arms) (first_holds _ (block_ok K names o.scope last) o.holds) }) (λ e. (h e).0)),
       block_halts last (λ e. let o = ok e in record { scope = o.scope; body = o.body; holds = last_holds _ (block_ok K names o.scope last) o.holds }) (λ e. (h e).1),
     )
     inside_halts node (Loop k b) ok h = block_halts b
@@ -78,7 +78,7 @@ module _ (K : Kernel) (n : ℕ) (quiet ordered : Bool) (names : List (List ℕ))
     nodes_halt end_of-KNode ok h = tt
     nodes_halt (more_of-KNode node p st rest) ok h = (
       layer_halts K n quiet (record { node = node; pos = p; stmt = st }) leave (λ e. (h e).0.0)
-      (inside_halts node st (λ e. let o = ok e in record { scope = o.scope; body = o.body; holds = last_holds _ (stmt_ok K names o.scope node st) (first_holds _ (nodes_ok K names o.scope rest) o.holds) }) (λ e. (h e).0.1)),
+          (inside_halts node st (λ e. let o = ok e in record { scope = o.scope; body = o.body; holds = last_holds _ (stmt_ok K names o.scope node st) (first_holds _ (nodes_ok K names o.scope rest) o.holds) }) (λ e. (h e).0.1)),
       nodes_halt rest (λ e. let o = ok e in record { scope = o.scope; body = o.body; holds = last_holds _ (nodes_ok K names o.scope rest) o.holds }) (λ e. (h e).1),
     )
 
