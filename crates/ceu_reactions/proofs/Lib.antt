@@ -1,2 +1,4 @@
+pub mod Serving
 pub mod Settling
 pub mod Paying
+pub mod Ending

@@ -32,7 +32,9 @@ use Rattle.ceu_living.proofs.Runs as living
 use Rattle.ceu_endings.specs.Counted.{tree_counted, Counted}
 use Rattle.ceu_endings.proofs.CountedTrees.{plugged, unplugged, leaves_kept}
 use Rattle.ceu_endings.proofs.CountedRuns.{by_input_kept, by_time_kept, later_kept, round_kept, steps_kept, done_kept, booted_kept}
+use Rattle.ceu_turns.specs.Laws.{is_finished}
 use Rattle.ceu_reactions.specs.Steady.{IsSteady}
+use Rattle.ceu_reactions.proofs.Serving.{serve_stays}
 
 -- ---- from some bound on
 
@@ -56,11 +58,6 @@ behind F G s t =
       is = λ n l. at n l ∙ sym (at b (omega arith));
       over = ap is_reacting (at b (omega arith)) ∙ t.over;
     }
-
--- an async's turn that is cut off
-abbrev pub is_cut : Served → Bool
-is_cut Unfinished = true
-is_cut x = false
 
 -- ---- reactions, commands and runs
 
@@ -146,7 +143,7 @@ module _ (K : Kernel) (proper : is_proper K ≡ true) where
   -- ---- where each reaction ends, and each turn of an async
 
   module _ (react : (n : ℕ) (r : Residual) (w : World) → IsSteady K (Between n r w) → (count : ℕ) × (is_reacting (steps K count (Between n r w)) ≡ false))
-      (serves : (root : Body) (d : Part) (f : Focus Act) (w : World) → AsyncPart K proper d → TurnFits K 1 d f → (count : ℕ) × ((n : ℕ) → count ≤ n → serve K n root f w ≡ serve K count root f w) × (is_cut (serve K count root f w) ≡ false)) where
+      (serves : (root : Body) (f : Focus Act) (w : World) → (count : ℕ) × (is_finished (serve K count root f w) ≡ true)) where
     reaction_settles : (r : Residual) (w : World) → IsSteady K (Between 0 r w) → Settles (λ n. reacts K n r w)
     reaction_settles r w h = let x = react 0 r w h in record { bound = x.0; is = λ n l. steps_stand K x.0 n (Between 0 r w) l x.1; over = x.1 }
 
@@ -190,14 +187,14 @@ module _ (K : Kernel) (proper : is_proper K ≡ true) where
     record Serves (F : ℕ → Served) : Type 0 where
       bound : ℕ
       is : (n : ℕ) → bound ≤ n → F n ≡ F bound
-      whole : is_cut (F bound) ≡ false
+      whole : is_finished (F bound) ≡ true
 
-    first_serves : (root : Body) (d : Part) (o : Option (Focus Act)) (r : Residual) (w : World) → AsyncPart K proper d → ChoiceFits K 1 Act (runs_at 0) d o → Serves (λ n. serve_first K n root o r w)
-    first_serves root d None r w p c = record { bound = 0; is = λ n l. refl; whole = refl }
-    first_serves root d (Some f) r w p c = let x = serves root d f w p (turn_of_chosen K proper 0 d f c) in record { bound = x.0; is = x.1; whole = x.2 }
+    first_serves : (root : Body) (o : Option (Focus Act)) (r : Residual) (w : World) → Serves (λ n. serve_first K n root o r w)
+    first_serves root None r w = record { bound = 0; is = λ n l. refl; whole = refl }
+    first_serves root (Some f) r w = let x = serves root f w in record { bound = x.0; is = λ n l. serve_stays K x.0 n root f w l x.1; whole = x.1 }
 
-    after_settles : (g : Focus Unserved) (r : Residual) (w : World) (x : Served) → is_cut x ≡ false → ((u : World) → x ≡ Done u → IsSteady K (Between 0 (plug g (Run 0 (Finish (leaf g).stmt (pos 0)))) u)) → Settles (λ n. after_serving K n g x r w)
-    after_settles g r w Unfinished e h = absurd (false≢true (sym e))
+    after_settles : (g : Focus Unserved) (r : Residual) (w : World) (x : Served) → is_finished x ≡ true → ((u : World) → x ≡ Done u → IsSteady K (Between 0 (plug g (Run 0 (Finish (leaf g).stmt (pos 0)))) u)) → Settles (λ n. after_serving K n g x r w)
+    after_settles g r w Unfinished e h = absurd (false≢true e)
     after_settles g r w (Turned q u) e h = still (Waiting (plug g (InAsync (leaf g).stmt true q)) u) refl
     after_settles g r w (Done u) e h = reaction_settles (plug g (Run 0 (Finish (leaf g).stmt (pos 0)))) u (h u refl)
     after_settles g r w (Failed y q u) e h = still (faulted y (plug g (InAsync (leaf g).stmt true q)) u) refl
@@ -205,12 +202,8 @@ module _ (K : Kernel) (proper : is_proper K ≡ true) where
     served_settles : (r : Residual) (w : World) (o : Option (Focus Unserved)) → choose Unserved unserved r ≡ o → IsSteady K (Waiting r w) → Settles (λ n. served K n o r w)
     served_settles r w None e h = still (Waiting r w) refl
     served_settles r w (Some g) e h =
-        let chosen : ChoiceFits K 0 Unserved unserved (program_part K) (Some g) = subst (ChoiceFits K 0 Unserved unserved (program_part K)) e (choice_fits K 0 Unserved unserved h.fits) in
-        let l = async_leaf K proper chosen.part chosen.was (leaf g) chosen.fits chosen.picked in
-        let a : Around K 0 Unserved g (program_part K) (AStatement l.scope (leaf g).stmt) = subst (Around K 0 Unserved g (program_part K)) l.is chosen.around in
-        let p = async_part l.scope (leaf g).stmt l.block l.layer (around_sound K proper a (root_sound K proper)) in
         let serving : ℕ → Served = λ n. serve_first K n (body_of g Program) (choose Act (runs_at 0) (leaf g).inner) (leaf g).inner w in
-        let s = first_serves (body_of g Program) (ABlock false (async_scope K l.scope) l.block) (choose Act (runs_at 0) (leaf g).inner) (leaf g).inner w p (choice_fits K 1 Act (runs_at 0) l.fits) in
+        let s = first_serves (body_of g Program) (choose Act (runs_at 0) (leaf g).inner) (leaf g).inner w in
         let t = after_settles g r w (serving s.bound) s.whole (λ u q. served_steady s.bound g r w u h e q) in
         let b = s.bound + t.bound in
         let at : (n : ℕ) → b ≤ n → after_serving K n g (serving n) r w ≡ after_serving K t.bound g (serving s.bound) r w =

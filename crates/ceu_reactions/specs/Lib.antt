@@ -1,1 +1,3 @@
 pub mod Steady
+pub mod Bounded
+pub mod Laws
