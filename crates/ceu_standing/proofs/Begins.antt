@@ -1,20 +1,18 @@
 -- A tree that waited, some of whose leaves an input, a time or the end of an async has woken, is one with which a reaction begins.
-use Rattle.std.proofs.Common.{◌≡◌, refl, sym, ap, ◌∙◌, subst, ◌<◌, ℕ, ◌-◌, min, ℤ, pos, Bool, true, false, if◌then◌else◌, ◌==◌, List, Option, Some, None, arith}
+use Rattle.std.proofs.Common.{◌≡◌, sym, ap, subst, ◌<◌, ℕ, min, ℤ, pos, Bool, true, false, if◌then◌else◌, ◌==◌, List, Option, Some, None, arith}
 use Rattle.ceu_tree.specs.declared.kernel.Kernel.{Kernel}
 use Rattle.ceu_tree.specs.declared.kernel.ParKind.{ParKind}
 use Rattle.ceu_tree.specs.declared.kernel.KBlock.{KBlock}
 use Rattle.ceu_tree.specs.declared.kernel.KStmt.{out-KStmt}
-use Rattle.ceu_tree.specs.declared.kernel.KStmt.TheOpen.{KStmt-F}
 use Rattle.ceu_tree.specs.Residual.{Finish, Seat, Residual, Run, WaitInput, WaitTime, InAsync, Branches, no_branch, branch, Instances, no_instance, instance}
 use Rattle.ceu_tree.specs.Focus.{Frame, OfBlock, OfInstance, OfOpen, OfLoop, OfCall, OfPar, Focus, Here, In, join, join_instances, fill, plug, leaf, choose}
 use Rattle.ceu_tree.specs.Wake.{each_leaf, each_in_branches, each_in_instances, by_input, later, by_time, Unserved, unserved}
 use Rattle.ceu_tree.specs.Proper.{Scope}
 use Rattle.ceu_laws.proofs.FocusBalance.{Found, FoundIn, choose_found}
-use Rattle.ceu_legal.specs.Shape.{Part, ABlock, AStatement, program_part, pauses, Fits, to_begin, to_turn, in_list, to_finish, at_input, at_time, at_event, at_forever, at_async, in_part, in_turn, in_call, in_par, EachFits, no_more, an_ended, a_branch, AllFit, none_lives, one_lives, FrameFits, around_statement, around_end, around_instance, around_part, around_turn, around_call, around_branch, Around, nothing_around, one_around}
-use Rattle.ceu_legal.proofs.Fits.{raised, around_raised, plug_fits}
-use Rattle.ceu_legal.proofs.Leaves.{leaves_fit, by_input_fits, by_time_fits, later_fits}
+use Rattle.ceu_legal.specs.Shape.{Part, ABlock, AStatement, pauses, Fits, to_begin, to_turn, in_list, to_finish, at_input, at_time, at_event, at_forever, at_async, in_part, in_turn, in_call, in_par, EachFits, no_more, an_ended, a_branch, AllFit, none_lives, one_lives}
+use Rattle.ceu_legal.proofs.Fits.{around_raised, plug_fits}
+use Rattle.ceu_legal.proofs.Leaves.{leaves_fit, later_fits}
 use Rattle.ceu_legal.proofs.Choice.{ChoiceFits, choice_fits}
-use Rattle.ceu_living.specs.Instances.{pools_stand}
 use Rattle.ceu_standing.specs.Standing.{is_outside, begins_reaction, each_begins, all_begin}
 
 -- ---- leaves

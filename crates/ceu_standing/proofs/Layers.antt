@@ -1,7 +1,6 @@
 -- What a statement costs where it stood waiting, whether it waits, and whether it is calm, one level of it open.
 use Rattle.std.proofs.Common.{◌≡◌, refl, sym, ap, ◌∙◌, Bool, true, false, not, ◌||◌, ◌&&◌, ℕ, List}
 use Rattle.std.specs.List.{list_any, list_all}
-use Rattle.ceu_tree.specs.declared.kernel.KArm.{KArm}
 use Rattle.ceu_tree.specs.declared.kernel.KStmt.{KStmt, out-KStmt, Row_of-KArm, end_of-KArm, more_of-KArm, items-the_row-KArm, items_shown-the_row-KArm-0, Row_of-KBlock, end_of-KBlock, more_of-KBlock, items-the_row-KBlock, items_shown-the_row-KBlock-1, If', Par'}
 use Rattle.ceu_tree.specs.declared.kernel.KStmt.TheOpen.{KStmt-F}
 use Rattle.ceu_tree.specs.Leaf.{Layer}

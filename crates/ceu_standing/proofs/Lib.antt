@@ -4,3 +4,6 @@ pub mod Stays
 pub mod BareTrees
 pub mod Begins
 pub mod Within
+pub mod Quiet
+pub mod BareSteps
+pub mod BareRuns

@@ -1,6 +1,6 @@
 -- What a tree has to pay with which a reaction begins is at most what its parts cost where they stood waiting.
-use Rattle.std.proofs.Common.{◌≡◌, refl, sym, ap, ◌∙◌, subst, ◌≤◌, ◌-◌, ℕ, zero, suc, ℤ, Bool, true, false, if◌then◌else◌, ◌||◌, ◌⊎◌, inl, inr, List, [], ◌∷◌, ◌++◌, Option, Some, None, arith}
-use Rattle.std.proofs.lemmas.Bool.{and_parts, false≢true}
+use Rattle.std.proofs.Common.{◌≡◌, refl, sym, ap, ◌∙◌, subst, ◌≤◌, ℕ, Bool, true, false, if◌then◌else◌, ◌||◌, ◌⊎◌, inl, inr, List, [], ◌∷◌, ◌++◌, Option, Some, None, arith}
+use Rattle.std.proofs.lemmas.Bool.{false≢true}
 use Rattle.std.specs.List.{list_all}
 use Rattle.ceu_tree.specs.declared.kernel.Kernel.{Kernel}
 use Rattle.ceu_tree.specs.declared.kernel.KDecl.{KDecl}
@@ -8,25 +8,25 @@ use Rattle.ceu_tree.specs.declared.kernel.KLoop.{KLoop}
 use Rattle.ceu_tree.specs.declared.kernel.KLoop.TheVariants as turns
 use Rattle.ceu_tree.specs.declared.kernel.ParKind.{ParKind}
 use Rattle.ceu_tree.specs.declared.kernel.KNode.{KNode}
-use Rattle.ceu_tree.specs.declared.kernel.KArm.{KArm, out-KArm}
+use Rattle.ceu_tree.specs.declared.kernel.KArm.{KArm}
 use Rattle.ceu_tree.specs.declared.kernel.KBlock.{KBlock, out-KBlock}
 use Rattle.ceu_tree.specs.declared.kernel.KStmt.{KStmt, out-KStmt, AwaitEvent}
 use Rattle.ceu_tree.specs.declared.kernel.KStmt.TheOpen.{KStmt-F}
 use Rattle.ceu_tree.proofs.CalmLaws.{paced_of_body}
 use Rattle.ceu_tree.proofs.StayLaws.{stay_of_block, stay_of_arm}
-use Rattle.ceu_tree.specs.Residual.{Counter, Free, Turns, Upward, Residual, Over, Run, Finish, WaitEvent, Block, Open, Loop, Par, Branches, no_branch, branch, Instances, no_instance, instance}
+use Rattle.ceu_tree.specs.Residual.{Counter, Turns, Upward, Residual, Block, Branches, Instances}
 use Rattle.ceu_tree.specs.Leaf.{Layer}
 use Rattle.ceu_tree.specs.Paths.{Way, constant_bound, has_end, quick_block}
-use Rattle.ceu_tree.specs.Costs.{Cost, cost, nothing, plus, times, most, most_of, sum_of, cost_at, no_bound, calm_node, awaited_event, paced, paced_body, paced_nodes, loop_times, loop_stay, enter_block, enter_list, stands_waiting, waiting_block, node_waits, pools_stay, stay, stay_block, stay_arm, stay_node, stay_list}
+use Rattle.ceu_tree.specs.Costs.{Cost, cost, nothing, plus, times, most, most_of, sum_of, cost_at, no_bound, calm_node, awaited_event, paced, paced_body, paced_nodes, loop_times, loop_stay, enter_block, enter_list, node_waits, pools_stay, stay_block, stay_arm, stay_node, stay_list}
 use Rattle.ceu_tree.specs.Proper.{Scope}
-use Rattle.ceu_legal.specs.Shape.{Part, ABlock, AStatement, AnEnd, among_arms, opens_part, counts, turn_scope, Fits, to_begin, to_turn, in_list, to_finish, at_input, at_time, at_event, at_forever, at_async, in_part, in_turn, in_call, in_par, EachFits, no_more, an_ended, a_branch, AllFit, none_lives, one_lives}
+use Rattle.ceu_legal.specs.Shape.{Part, ABlock, AStatement, AnEnd, among_arms, opens_part, counts, Fits, to_begin, to_turn, in_list, to_finish, at_input, at_time, at_event, at_forever, at_async, in_part, in_turn, in_call, in_par, EachFits, no_more, an_ended, a_branch, AllFit, none_lives, one_lives}
 use Rattle.ceu_living.specs.Instances.{pools_stand, each_pools_stand, seats_stand}
 use Rattle.ceu_endings.specs.Counted.{turns_left, at_most, turns_counted, layer_counted, tree_counted, each_counted, all_counted}
 use Rattle.ceu_costs.specs.Ways.{goes_on, to_begin as turns_to_begin, ways}
 use Rattle.ceu_costs.specs.Due.{is_await, at_await, at_head, running, times_of_turns, head_times, head_due, due_in_loop, due, due_of_branches, due_of_instances, due_at_head}
 use Rattle.ceu_costs.specs.Pays.{Within, is_paced}
 use Rattle.ceu_costs.specs.Kept.{CodesStay}
-use Rattle.ceu_costs.proofs.Cost.{same, is, chain, both, first, second, least, more_times, fewer_turns}
+use Rattle.ceu_costs.proofs.Cost.{same, is, chain, both, least, more_times, fewer_turns}
 use Rattle.ceu_copies.specs.Copies.{weigh_instances}
 use Rattle.ceu_copies.proofs.Pools.{hold, pools_stay_is}
 use Rattle.ceu_standing.specs.Standing.{is_outside, begins_reaction, each_begins, all_begin, spawns_nothing, pools_bare, each_bare, all_bare}
@@ -42,7 +42,7 @@ most_second a b c h = let h0 = h.turns in let h1 = h.opens in record { turns = o
 
 -- ---- the head of a loop that an event paces
 
-event_awaited : (st : KStmt) (e : ℕ) → awaited_event st ≡ Some e → is_await (out-KStmt st) ≡ true
+pub event_awaited : (st : KStmt) (e : ℕ) → awaited_event st ≡ Some e → is_await (out-KStmt st) ≡ true
 unfolding out-KStmt Carrier.out
 event_awaited (AwaitEvent x t) e h = refl
 event_awaited st e h = absurd (cc)
@@ -51,12 +51,12 @@ await_inside : (layer : Layer) → is_outside layer ≡ true → is_await layer 
 await_inside (KStmt-F.AwaitEvent x t) o h = false≢true o
 await_inside layer o h = false≢true h
 
-await_opens : (layer : Layer) (b : KBlock) → opens_part layer b → is_await layer ≡ true → ⊥
+pub await_opens : (layer : Layer) (b : KBlock) → opens_part layer b → is_await layer ≡ true → ⊥
 await_opens (KStmt-F.AwaitEvent x t) b o h = o
 await_opens layer b o h = false≢true h
 
 -- the statement that stands is the await, or calm
-paced_at : (done : List KNode) (s : KNode) (rest : List KNode) (e : ℕ) → paced_nodes (done ++ s ∷ rest) ≡ Some e → (awaited_event s.stmt ≡ Some e) ⊎ (calm_node s ≡ true)
+pub paced_at : (done : List KNode) (s : KNode) (rest : List KNode) (e : ℕ) → paced_nodes (done ++ s ∷ rest) ≡ Some e → (awaited_event s.stmt ≡ Some e) ⊎ (calm_node s ≡ true)
 paced_at [] s rest e h = go (list_all calm_node rest) h
   where
     go : (c : Bool) → (if c then awaited_event s.stmt else None) ≡ Some e → (awaited_event s.stmt ≡ Some e) ⊎ (calm_node s ≡ true)

@@ -1,5 +1,5 @@
 -- Where no await stands, no trail stands at the beginning of a reaction: nothing calm has a leaf, and what has no await pays nothing and goes nowhere.
-use Rattle.std.proofs.Common.{◌≡◌, refl, sym, ap, ◌∙◌, subst, Bool, true, false, not, if◌then◌else◌, ◌||◌, ◌&&◌, ◌==◌, nat_lt, ◌⊎◌, inl, inr, ℕ, List, [], ◌∷◌, ◌++◌, Option, Some, None}
+use Rattle.std.proofs.Common.{◌≡◌, refl, sym, ap, ◌∙◌, Bool, true, false, not, if◌then◌else◌, ◌||◌, ◌&&◌, ◌==◌, nat_lt, inl, inr, ℕ, List, [], ◌∷◌, ◌++◌, Option, Some, None}
 use Rattle.std.proofs.lemmas.Bool.{and_parts, false≢true}
 use Rattle.std.specs.List.{list_any, list_all}
 use Rattle.ceu_tree.specs.declared.kernel.Kernel.{Kernel}
@@ -10,16 +10,16 @@ use Rattle.ceu_tree.specs.declared.kernel.KLoop.{KLoop}
 use Rattle.ceu_tree.specs.declared.kernel.ParKind.{ParKind}
 use Rattle.ceu_tree.specs.declared.kernel.ParKind.TheVariants as par
 use Rattle.ceu_tree.specs.declared.kernel.KNode.{KNode}
-use Rattle.ceu_tree.specs.declared.kernel.KArm.{KArm, out-KArm}
+use Rattle.ceu_tree.specs.declared.kernel.KArm.{KArm}
 use Rattle.ceu_tree.specs.declared.kernel.KBlock.{KBlock, out-KBlock}
 use Rattle.ceu_tree.specs.declared.kernel.KStmt.{KStmt, out-KStmt, AwaitEvent}
 use Rattle.ceu_tree.specs.declared.kernel.KStmt.TheOpen.{KStmt-F}
 use Rattle.ceu_tree.proofs.CalmLaws.{calm_of_block, calm_of_arm, paced_of_body}
 use Rattle.ceu_tree.proofs.WaitLaws.{waits_of_block, waits_of_arm}
-use Rattle.ceu_tree.specs.Residual.{Counter, Seat, Residual, Over, Block, Open, Loop, Par, Branches, no_branch, branch, Instances, no_instance, instance}
+use Rattle.ceu_tree.specs.Residual.{Counter, Seat, Residual, Block, Loop, Branches, Instances, no_instance, instance}
 use Rattle.ceu_tree.specs.Leaf.{Layer}
 use Rattle.ceu_tree.specs.Around.{is_over, all_over, kind_of}
-use Rattle.ceu_tree.specs.Paths.{Way, has_end, without_end, end_if, par_ways, quick_list, seq_ways}
+use Rattle.ceu_tree.specs.Paths.{has_end, end_if, par_ways, quick_list, seq_ways}
 use Rattle.ceu_tree.specs.Costs.{Cost, nothing, plus, no_bound, calm_block, calm_arm, calm_node, awaited_event, paced, paced_body, paced_nodes, enter_list, has_pool_decl, waiting_block, waiting_arm, node_waits}
 use Rattle.ceu_tree.specs.Proper.{Scope}
 use Rattle.ceu_legal.specs.Shape.{Part, ABlock, AStatement, AnEnd, among_arms, opens_part, still_on, Fits, to_begin, to_turn, in_list, to_finish, at_input, at_time, at_event, at_forever, at_async, in_part, in_turn, in_call, in_par, EachFits, no_more, an_ended, a_branch}

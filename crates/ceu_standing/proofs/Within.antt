@@ -1,12 +1,10 @@
 -- What is to pay where a reaction begins, after an input, a time and the end of an async.
-use Rattle.std.proofs.Common.{◌≡◌, sym, subst, ℕ, ◌==◌, min, ℤ, pos, Bool, true, false, if◌then◌else◌, List, Some, arith}
+use Rattle.std.proofs.Common.{◌≡◌, sym, subst, ℕ, ◌==◌, min, ℤ, pos, Bool, true, false, if◌then◌else◌, List, Some}
 use Rattle.ceu_tree.specs.declared.kernel.Kernel.{Kernel}
 use Rattle.ceu_tree.specs.Residual.{Finish, Residual, Run, WaitInput, WaitTime}
 use Rattle.ceu_tree.specs.Focus.{Focus, plug, leaf, choose}
 use Rattle.ceu_tree.specs.Wake.{each_leaf, by_input, later, by_time, Unserved, unserved}
 use Rattle.ceu_tree.specs.Costs.{Cost, stay_block}
-use Rattle.ceu_legal.specs.Shape.{program_part, pauses, Fits, to_finish}
-use Rattle.ceu_legal.proofs.Fits.{around_raised, plug_fits}
 use Rattle.ceu_legal.proofs.Leaves.{leaves_fit, by_input_fits, by_time_fits, later_fits}
 use Rattle.ceu_living.specs.Instances.{pools_stand}
 use Rattle.ceu_living.proofs.Trees as living

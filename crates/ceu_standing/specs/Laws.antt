@@ -42,3 +42,16 @@ TimeWithin = (passing : List Bool) (events entering staying : List Cost) (K : Ke
 abbrev pub AsyncWithin : Type 0
 AsyncWithin = (passing : List Bool) (events entering staying : List Cost) (K : Kernel) (g : Focus Unserved) (r : Residual) → CodesStay passing events entering staying K → Stands K 0 r
     → choose Unserved unserved r ≡ Some g → Within (due passing events entering (plug g (Run 0 (Finish (leaf g).stmt (pos 0))))) (stay_block passing events entering staying K.body)
+
+-- Where no statement of a block spawns, none of its pools ever has an instance: at the start, after a step, after a command, and so in every run.
+abbrev pub BootBare : Type 0
+BootBare = (K : Kernel) → ConfigBare (booted K)
+
+abbrev pub StepBare : Type 0
+StepBare = (K : Kernel) (c : Config) → Proper K → ConfigFits K c → ConfigBare c → ConfigBare (next K c)
+
+abbrev pub CommandBare : Type 0
+CommandBare = (K : Kernel) (bound : ℕ) (x : Command) (c : Config) → Proper K → ConfigFits K c → ConfigBare c → ConfigBare (done K bound x c)
+
+abbrev pub RunBare : Type 0
+RunBare = (K : Kernel) (bound : ℕ) (xs : List Command) → Proper K → ConfigBare (run K bound xs)
