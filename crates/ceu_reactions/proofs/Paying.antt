@@ -43,6 +43,7 @@ use Rattle.ceu_tables.proofs.Settled.{emissions_settle}
 use Rattle.ceu_copies.proofs.Reach.{reaches}
 use Rattle.ceu_kept.proofs.Bodies.{rules_kept, code_leaves}
 use Rattle.ceu_reaches.proofs.Bodies.{woken_costs, emitted_fits}
+use Rattle.ceu_standing.proofs.BareRuns.{next_bare}
 use Rattle.ceu_reactions.specs.Steady.{IsSteady}
 use denote.Hole.Carrier
 
@@ -105,7 +106,7 @@ module _ (K : Kernel) (proper : is_proper K ≡ true) (keeps : KeepsLoopRules K)
   -- ---- so each step of a steady configuration pays
 
   pub next_steady : (c : Config) → IsSteady K c → IsSteady K (next K c)
-  next_steady c h = record { fits = next_fits K proper c h.fits; counted = next_kept K c h.counted; instances = living.next_stands K proper c h.fits h.instances }
+  next_steady c h = record { fits = next_fits K proper c h.fits; counted = next_kept K c h.counted; instances = living.next_stands K proper c h.fits h.instances; bare = next_bare K proper c h.fits h.bare }
 
   pub step_pays : (n : ℕ) (f : Focus Act) (w : World) → IsSteady K (Turning n f w) → Paid K n (plug f (Run n (leaf f))) (stepped K n Program f w).outcome
   step_pays n f w h =

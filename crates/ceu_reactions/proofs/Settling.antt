@@ -32,6 +32,10 @@ use Rattle.ceu_living.proofs.Runs as living
 use Rattle.ceu_endings.specs.Counted.{tree_counted, Counted}
 use Rattle.ceu_endings.proofs.CountedTrees.{plugged, unplugged, leaves_kept}
 use Rattle.ceu_endings.proofs.CountedRuns.{by_input_kept, by_time_kept, later_kept, round_kept, steps_kept, done_kept, booted_kept}
+use Rattle.ceu_standing.specs.Standing.{pools_bare}
+use Rattle.ceu_standing.proofs.BareTrees as bare
+use Rattle.ceu_standing.proofs.Within.{bare_input, bare_time, bare_later}
+use Rattle.ceu_standing.proofs.BareRuns.{bare_round, booted_bare, steps_bare, done_bare}
 use Rattle.ceu_turns.specs.Laws.{is_finished}
 use Rattle.ceu_reactions.specs.Steady.{IsSteady}
 use Rattle.ceu_reactions.proofs.Serving.{serve_stays}
@@ -66,13 +70,13 @@ module _ (K : Kernel) (proper : is_proper K ≡ true) where
   async_part sc s b e h = record { closed = λ node x y. false≢true x; sound = (layer_of K proper sc s (KStmt-F.Async b) e h).1; apart = λ x. false≢true x }
 
   pub booted_steady : IsSteady K (booted K)
-  booted_steady = record { fits = booted_fits K proper; counted = booted_kept K; instances = living.boot_stands K }
+  booted_steady = record { fits = booted_fits K proper; counted = booted_kept K; instances = living.boot_stands K; bare = booted_bare K }
 
   pub steps_steady : (n : ℕ) (c : Config) → IsSteady K c → IsSteady K (steps K n c)
-  steps_steady n c h = record { fits = steps_fit K proper n c h.fits; counted = steps_kept K n c h.counted; instances = living.steps_stand K proper n c h.fits h.instances }
+  steps_steady n c h = record { fits = steps_fit K proper n c h.fits; counted = steps_kept K n c h.counted; instances = living.steps_stand K proper n c h.fits h.instances; bare = steps_bare K proper n c h.fits h.bare }
 
   pub done_steady : (n : ℕ) (x : Command) (c : Config) → IsSteady K c → IsSteady K (done K n x c)
-  done_steady n x c h = record { fits = done_fits K proper n x c h.fits; counted = done_kept K n x c h.counted; instances = living.done_stands K proper n x c h.fits h.instances }
+  done_steady n x c h = record { fits = done_fits K proper n x c h.fits; counted = done_kept K n x c h.counted; instances = living.done_stands K proper n x c h.fits h.instances; bare = done_bare K proper n x c h.fits h.bare }
 
   -- what waited, once it is woken
   pub input_steady : (event : ℕ) (v : ℤ) (r : Residual) (w : World) → IsSteady K (Waiting r w) → IsSteady K (Between 0 (each_leaf (by_input event v) r) w)
@@ -81,6 +85,7 @@ module _ (K : Kernel) (proper : is_proper K ≡ true) where
         fits = fits;
         counted = leaves_kept (by_input event v) (by_input_kept event v) r h.counted;
         instances = instances_stand K proper (Between 0 (each_leaf (by_input event v) r) w) fits (leaves_counts (by_input event v) (by_input_calm event v) r w (instances_counted K proper (Waiting r w) h.fits h.instances));
+        bare = bare.leaves_kept (by_input event v) (bare_input event v) r h.bare;
       }
 
   pub later_steady : (d : ℕ) (r : Residual) (w : World) → IsSteady K (Waiting r w) → IsSteady K (Waiting (each_leaf (later d) r) w)
@@ -89,6 +94,7 @@ module _ (K : Kernel) (proper : is_proper K ≡ true) where
         fits = fits;
         counted = leaves_kept (later d) (later_kept d) r h.counted;
         instances = instances_stand K proper (Waiting (each_leaf (later d) r) w) fits (leaves_counts (later d) (later_calm d) r w (instances_counted K proper (Waiting r w) h.fits h.instances));
+        bare = bare.leaves_kept (later d) (bare_later d) r h.bare;
       }
 
   pub time_steady : (d : ℕ) (r : Residual) (w : World) → IsSteady K (Waiting r w) → IsSteady K (Between 0 (each_leaf (by_time d) r) w)
@@ -97,6 +103,7 @@ module _ (K : Kernel) (proper : is_proper K ≡ true) where
         fits = fits;
         counted = leaves_kept (by_time d) (by_time_kept d) r h.counted;
         instances = instances_stand K proper (Between 0 (each_leaf (by_time d) r) w) fits (leaves_counts (by_time d) (by_time_calm d) r w (instances_counted K proper (Waiting r w) h.fits h.instances));
+        bare = bare.leaves_kept (by_time d) (bare_time d) r h.bare;
       }
 
   pub round_steady : (r : Residual) (w : World) → IsSteady K (Waiting r w) → IsSteady K (Waiting (each_leaf new_round r) w)
@@ -105,14 +112,15 @@ module _ (K : Kernel) (proper : is_proper K ≡ true) where
         fits = fits;
         counted = leaves_kept new_round round_kept r h.counted;
         instances = instances_stand K proper (Waiting (each_leaf new_round r) w) fits (leaves_counts new_round round_calm r w (instances_counted K proper (Waiting r w) h.fits h.instances));
+        bare = bare.leaves_kept new_round bare_round r h.bare;
       }
 
   -- what an async is served with keeps the program steady: its end too, where a reaction begins
   pub served_steady : (b : ℕ) (g : Focus Unserved) (r : Residual) (w u : World) → IsSteady K (Waiting r w) → choose Unserved unserved r ≡ Some g
       → serve_first K b (body_of g Program) (choose Act (runs_at 0) (leaf g).inner) (leaf g).inner w ≡ Done u → IsSteady K (Between 0 (plug g (Run 0 (Finish (leaf g).stmt (pos 0)))) u)
-  unfolding steps tree_counted
+  unfolding steps tree_counted pools_bare
   served_steady b g r w u h e q =
-      let l = living_at in record { fits = l.0; counted = counted_at; instances = instances_stand K proper (Between 0 (plug g (Run 0 (Finish (leaf g).stmt (pos 0)))) u) l.0 l.1 }
+      let l = living_at in record { fits = l.0; counted = counted_at; instances = instances_stand K proper (Between 0 (plug g (Run 0 (Finish (leaf g).stmt (pos 0)))) u) l.0 l.1; bare = bare_at }
     where
       chosen : ChoiceFits K 0 Unserved unserved (program_part K) (Some g)
       chosen = subst (ChoiceFits K 0 Unserved unserved (program_part K)) e (choice_fits K 0 Unserved unserved h.fits)
@@ -125,6 +133,9 @@ module _ (K : Kernel) (proper : is_proper K ≡ true) where
 
       counted_at : tree_counted finished
       counted_at = plugged g (Run 0 (Finish (leaf g).stmt (pos 0))) (unplugged g found.was (subst tree_counted (sym found.plugs) h.counted)).0 tt
+
+      bare_at : pools_bare finished
+      bare_at = bare.plugged g (Run 0 (Finish (leaf g).stmt (pos 0))) (bare.unplugged g found.was (subst pools_bare (sym found.plugs) h.bare)).0 tt
 
       living_at : Fits K 1 (program_part K) finished × ConfigCounts (Between 0 finished u)
       living_at =

@@ -4,8 +4,10 @@ use Rattle.ceu_tree.specs.Run.{Config}
 use Rattle.ceu_legal.specs.Shape.{ConfigFits}
 use Rattle.ceu_living.specs.Instances.{InstancesStand}
 use Rattle.ceu_endings.specs.Counted.{Counted}
+use Rattle.ceu_standing.specs.Standing.{ConfigBare}
 
 pub record IsSteady (K : Kernel) (c : Config) : Type 0 where
   pub fits : ConfigFits K c  -- each open part is one of the kernel's, and stands where the kernel has it
   pub counted : Counted c  -- no loop has begun more turns than its constant bound
   pub instances : InstancesStand c  -- instances stand at places of their pools
+  pub bare : ConfigBare c  -- where no statement of a block spawns, its pools have no instance

@@ -23,7 +23,7 @@ use Rattle.ceu_standing.proofs.BareSteps.{OutcomeBare, stepped_bare}
 use Rattle.ceu_standing.proofs.Begins.{async_fits}
 use Rattle.ceu_standing.proofs.Within.{bare_input, bare_time, bare_later}
 
-bare_round : (r : Residual) → pools_bare r → pools_bare (new_round r)
+pub bare_round : (r : Residual) → pools_bare r → pools_bare (new_round r)
 unfolding pools_bare
 bare_round (InAsync s served r) h = tt
 bare_round r h = h
