@@ -1,5 +1,6 @@
 -- The reactions of a program that breaks no rule on loops stay within its bounds.
-use Rattle.std.proofs.Common.{◌≡◌, refl, sym, subst, ◌≤◌, ℕ, ◌+◌, max, ℤ, pos, [], Some, arith, common_steps}
+use Rattle.std.proofs.Common.{◌≡◌, refl, sym, subst, ◌≤◌, ℕ, ◌+◌, max, ℤ, pos, true, [], Some, arith}
+use Rattle.std.proofs.lemmas.Grind.{common_steps}
 use Rattle.ceu_tree.specs.declared.kernel.Kernel.{Kernel}
 use Rattle.ceu_tree.specs.Residual.{Program, Act, Finish, Residual, Run}
 use Rattle.ceu_tree.specs.Focus.{Focus, plug, leaf, body_of, choose}

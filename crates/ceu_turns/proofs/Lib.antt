@@ -7,3 +7,4 @@ pub mod Codes
 pub mod MidTurn
 pub mod Over
 pub mod Ending
+pub mod Reactions

@@ -1,21 +1,22 @@
 -- Each turn of a trail ends, in every program that breaks no rule on loops, and so does each turn of an async (this project's own).
-use Rattle.std.specs.Prelude.{◌≡◌, ℕ, Bool, true, false, [], Some}
+use Rattle.std.specs.Prelude.{◌≡◌, ◌≤◌, ℕ, Bool, true, false, [], Some}
 use Rattle.ceu_tree.specs.declared.kernel.Kernel.{Kernel}
 use Rattle.ceu_tree.specs.declared.kernel.KCode.{KCode}
 use Rattle.ceu_tree.specs.declared.kernel.KBlock.{out-KBlock}
-use Rattle.ceu_tree.specs.Residual.{Body, Act}
+use Rattle.ceu_tree.specs.Residual.{Body, Act, Residual}
 use Rattle.ceu_tree.specs.Focus.{Focus}
 use Rattle.ceu_tree.specs.World.{World}
 use Rattle.ceu_tree.specs.Leaf.{code_at}
 use Rattle.ceu_tree.specs.Paths.{end_if, flag, quick_block, passes_from}
 use Rattle.ceu_tree.specs.Proper.{Proper}
-use Rattle.ceu_tree.specs.Run.{Turning, steps, Served, Unfinished, serve}
+use Rattle.ceu_tree.specs.Run.{Turning, Between, steps, is_reacting, Served, Unfinished, serve}
 use Rattle.ceu_legal.specs.Shape.{ConfigFits}
 use Rattle.ceu_endings.specs.Counted.{Counted}
 use Rattle.ceu_endings.specs.Laws.{is_turning}
 use Rattle.ceu_costs.specs.Ways.{out_of}
 use Rattle.ceu_costs.specs.Pays.{Fewer}
 use Rattle.ceu_costs.specs.Kept.{RulesKept}
+use Rattle.ceu_costs.specs.Programs.{turns_begun}
 
 -- An await of code may go on at once where the table says that it does, and code is left by its end alone.
 abbrev pub CodesLeave : Kernel → Type 0
@@ -26,6 +27,11 @@ CodesLeave K = (c : ℕ) (k : KCode) → code_at c K.codes ≡ Some k
 abbrev pub TurnsAreOver : Type 0
 TurnsAreOver = (K : Kernel) (n : ℕ) (f : Focus Act) (w : World) → RulesKept K → CodesLeave K → ConfigFits K (Turning n f w) → Counted (Turning n f w)
     → (count : ℕ) × (is_turning (steps K count (Turning n f w)) ≡ false)
+
+-- So a reaction in which no more turns begin than some number is over after some number of steps.
+abbrev pub ReactionsAreOver : Type 0
+ReactionsAreOver = (K : Kernel) (turns n : ℕ) (r : Residual) (w : World) → RulesKept K → CodesLeave K → ConfigFits K (Between n r w) → Counted (Between n r w)
+    → ((k : ℕ) → turns_begun K k (Between n r w) ≤ turns) → (count : ℕ) × (is_reacting (steps K count (Between n r w)) ≡ false)
 
 -- ---- asyncs
 
