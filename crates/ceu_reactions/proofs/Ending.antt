@@ -14,5 +14,5 @@ use Rattle.ceu_reactions.proofs.Paying.{rules, codes_leave, next_steady, step_pa
 
 pub reactions_end : (K : Kernel) → is_proper K ≡ true → KeepsLoopRules K → (n : ℕ) (r : Residual) (w : World) → IsSteady K (Between n r w) → (count : ℕ) × (is_reacting (steps K count (Between n r w)) ≡ false)
 reactions_end K proper keeps n r w h =
-    reaction_ends K (due_in K r).turns n r w (rules K proper keeps) (codes_leave K proper keeps) h.fits h.counted
+    reaction_ends K (rules K proper keeps) (codes_leave K proper keeps) (due_in K r).turns n r w h.fits h.counted
     (λ k. turns_within K (IsSteady K) (next_steady K proper keeps) (step_pays K proper keeps) k (Between n r w) h)
