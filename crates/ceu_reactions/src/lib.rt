@@ -1,2 +1,0 @@
-//! Reactions end within the bounds of their program.
-#![tactic(auto)]
