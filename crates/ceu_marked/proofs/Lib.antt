@@ -1,0 +1,5 @@
+pub mod Silent
+pub mod Around
+pub mod Acted
+pub mod Stepped
+pub mod Runs
