@@ -8,5 +8,8 @@ pub mod Through
 pub mod Opened
 pub mod Started
 pub mod Turns
+pub mod AtMost
+pub mod Beyond
+pub mod Whole
 pub mod Places
 pub mod Runs

@@ -1,4 +1,4 @@
--- In a program whose statements pay in their own parts each statement that a trail comes to, and each loop around it, keeps the rules.
+-- In a program that keeps the rules each statement that a trail comes to, and each loop around it, keeps them.
 use Rattle.std.proofs.Common.{sym, subst, ℕ, Bool, List, [], ◌∷◌, ◌++◌, inl, inr}
 use Rattle.ceu_tree.specs.declared.kernel.Kernel.{Kernel}
 use Rattle.ceu_tree.specs.declared.kernel.KArm.{KArm, KArm', out-KArm}
@@ -10,15 +10,14 @@ use Rattle.ceu_tree.specs.Residual.{Act}
 use Rattle.ceu_tree.specs.Focus.{Frame, Focus, Here, In, leaf}
 use Rattle.ceu_tree.specs.Leaf.{Layer}
 use Rattle.ceu_tree.specs.Paths.{passes_from}
-use Rattle.ceu_legal.specs.Shape.{Part, ABlock, AStatement, AnEnd, opens_part, among_arms, FrameFits, around_statement, around_end, around_instance, around_part, around_turn, around_call, around_branch, Around, nothing_around, one_around, ActFits, begins, heads, goes_again, starts, finishes, ends}
+use Rattle.ceu_legal.specs.Shape.{Part, ABlock, AStatement, AnEnd, opens_part, among_arms, FrameFits, around_statement, around_end, around_instance, around_part, around_turn, around_call, around_branch, Around, nothing_around, one_around, ActFits, begins, heads, goes_again, starts, finishes, ends, program_part, TurnFits}
 use Rattle.ceu_costs.specs.Pays.{layer_keeps, frame_keeps, focus_keeps}
-use Rattle.ceu_costs.specs.Starts.{starts_keep, act_keeps}
-use Rattle.ceu_costs.specs.Programs.{inside_keeps, block_keeps, arm_inside, nodes_keep, arms_inside, blocks_inside, PaysInside}
+use Rattle.ceu_costs.specs.Kept.{starts_kept, act_kept, inside_kept, block_kept, arm_kept, nodes_kept, arms_kept, blocks_kept, RulesKept}
 use denote.Hole.Carrier
 
 module _ (P : List Bool) where
   abbrev pub StmtKeeps : KNode → Type 0
-  StmtKeeps s = starts_keep P s.node (out-KStmt s.stmt) × inside_keeps P s.stmt
+  StmtKeeps s = starts_kept P s.node (out-KStmt s.stmt) × inside_kept P s.stmt
 
   abbrev ListKeeps : List KNode → Type 0
   ListKeeps [] = Unit {0}
@@ -26,44 +25,44 @@ module _ (P : List Bool) where
 
   abbrev ArmsKeep : List KArm → Type 0
   ArmsKeep [] = Unit {0}
-  ArmsKeep (a ∷ arms) = block_keeps P (out-KArm a).body × ArmsKeep arms
+  ArmsKeep (a ∷ arms) = block_kept P (out-KArm a).body × ArmsKeep arms
 
   abbrev BlocksKeep : List KBlock → Type 0
   BlocksKeep [] = Unit {0}
-  BlocksKeep (b ∷ bs) = block_keeps P b × BlocksKeep bs
+  BlocksKeep (b ∷ bs) = block_kept P b × BlocksKeep bs
 
   abbrev LayerInside : Layer → Type 0
-  LayerInside (KStmt-F.Do t b) = block_keeps P b
-  LayerInside (KStmt-F.If arms last) = ArmsKeep arms × block_keeps P last
-  LayerInside (KStmt-F.Loop k b) = block_keeps P b
+  LayerInside (KStmt-F.Do t b) = block_kept P b
+  LayerInside (KStmt-F.If arms last) = ArmsKeep arms × block_kept P last
+  LayerInside (KStmt-F.Loop k b) = block_kept P b
   LayerInside (KStmt-F.Par k slot bs) = BlocksKeep bs
   LayerInside layer = Unit {0}
 
-  nodes_row : {n : _} (rows : Row_of-KNode n) → nodes_keep P rows → ListKeeps (items-the_row-KNode n rows)
-  unfolding inside_keeps
+  nodes_row : {n : _} (rows : Row_of-KNode n) → nodes_kept P rows → ListKeeps (items-the_row-KNode n rows)
+  unfolding inside_kept
   nodes_row end_of-KNode h = tt
   nodes_row (more_of-KNode n p s rest) h = (h.0, nodes_row rest h.1)
 
-  list_keeps : (b : KBlock) → block_keeps P b → ListKeeps (out-KBlock b).list
-  unfolding inside_keeps out-KBlock Carrier.out
+  list_keeps : (b : KBlock) → block_kept P b → ListKeeps (out-KBlock b).list
+  unfolding inside_kept out-KBlock Carrier.out
   list_keeps (KBlock' n ds x list) h = subst ListKeeps (sym (items_shown-the_row-KNode-2 x list)) (nodes_row list h)
 
-  arm_keeps : (a : KArm) → arm_inside P a → block_keeps P (out-KArm a).body
-  unfolding inside_keeps out-KArm Carrier.out
+  arm_keeps : (a : KArm) → arm_kept P a → block_kept P (out-KArm a).body
+  unfolding inside_kept out-KArm Carrier.out
   arm_keeps (KArm' c b) h = h
 
-  arms_row : {n : _} (rows : Row_of-KArm n) → arms_inside P rows → ArmsKeep (items-the_row-KArm n rows)
-  unfolding inside_keeps
+  arms_row : {n : _} (rows : Row_of-KArm n) → arms_kept P rows → ArmsKeep (items-the_row-KArm n rows)
+  unfolding inside_kept
   arms_row end_of-KArm h = tt
   arms_row (more_of-KArm a rest) h = (arm_keeps a h.0, arms_row rest h.1)
 
-  blocks_row : {n : _} (rows : Row_of-KBlock n) → blocks_inside P rows → BlocksKeep (items-the_row-KBlock n rows)
-  unfolding inside_keeps
+  blocks_row : {n : _} (rows : Row_of-KBlock n) → blocks_kept P rows → BlocksKeep (items-the_row-KBlock n rows)
+  unfolding inside_kept
   blocks_row end_of-KBlock h = tt
   blocks_row (more_of-KBlock b rest) h = (h.0, blocks_row rest h.1)
 
-  layer_inside : (st : KStmt) → inside_keeps P st → LayerInside (out-KStmt st)
-  unfolding inside_keeps out-KStmt Carrier.out
+  layer_inside : (st : KStmt) → inside_kept P st → LayerInside (out-KStmt st)
+  unfolding inside_kept out-KStmt Carrier.out
   layer_inside (Do t b) h = h
   layer_inside (If' x arms last) h = (subst ArmsKeep (sym (items_shown-the_row-KArm-0 x arms)) (arms_row arms h.0), h.1)
   layer_inside (Loop k b) h = h
@@ -74,31 +73,31 @@ module _ (P : List Bool) where
   stmt_at [] s rest h = h.0
   stmt_at (x ∷ before) s rest h = stmt_at before s rest h.1
 
-  block_at : (before : List KBlock) (b : KBlock) (rest : List KBlock) → BlocksKeep (before ++ b ∷ rest) → block_keeps P b
+  block_at : (before : List KBlock) (b : KBlock) (rest : List KBlock) → BlocksKeep (before ++ b ∷ rest) → block_kept P b
   block_at [] b rest h = h.0
   block_at (x ∷ before) b rest h = block_at before b rest h.1
 
-  arm_at : (arms : List KArm) (b : KBlock) → ArmsKeep arms → among_arms arms b → block_keeps P b
+  arm_at : (arms : List KArm) (b : KBlock) → ArmsKeep arms → among_arms arms b → block_kept P b
   arm_at [] b h o = absurd o
-  arm_at (a ∷ arms) b h (inl e) = subst (block_keeps P) e h.0
+  arm_at (a ∷ arms) b h (inl e) = subst (block_kept P) e h.0
   arm_at (a ∷ arms) b h (inr o) = arm_at arms b h.1 o
 
-  part_at : (layer : Layer) (b : KBlock) → LayerInside layer → opens_part layer b → block_keeps P b
-  part_at (KStmt-F.Do t c) b h e = subst (block_keeps P) e h
+  part_at : (layer : Layer) (b : KBlock) → LayerInside layer → opens_part layer b → block_kept P b
+  part_at (KStmt-F.Do t c) b h e = subst (block_kept P) e h
   part_at (KStmt-F.If arms last) b h (inl o) = arm_at arms b h.0 o
-  part_at (KStmt-F.If arms last) b h (inr e) = subst (block_keeps P) e h.1
+  part_at (KStmt-F.If arms last) b h (inr e) = subst (block_kept P) e h.1
   part_at layer b h o = absurd o
 
-  loop_at : (node : ℕ) (layer : Layer) → starts_keep P node layer → layer_keeps P node layer
+  loop_at : (node : ℕ) (layer : Layer) → starts_kept P node layer → layer_keeps P node layer
   loop_at node (KStmt-F.Loop k b) h = h
   loop_at node layer h = tt
 
   abbrev pub PlaceKeeps : Part → Type 0
-  PlaceKeeps (ABlock turn sc b) = block_keeps P b
+  PlaceKeeps (ABlock turn sc b) = block_kept P b
   PlaceKeeps (AStatement sc s) = StmtKeeps s
   PlaceKeeps AnEnd = Unit {0}
 
-  act_at : {d : Part} {a : Act} → ActFits d a → PlaceKeeps d → act_keeps P a
+  act_at : {d : Part} {a : Act} → ActFits d a → PlaceKeeps d → act_kept P a
   act_at begins h = tt
   act_at heads h = tt
   act_at goes_again h = tt
@@ -106,17 +105,14 @@ module _ (P : List Bool) where
   act_at (finishes p) h = tt
   act_at ends h = tt
 
-module _ (K : Kernel) (h : PaysInside K) where
-  passing : List Bool
-  passing = passes_from [] K.codes
-
+module _ (K : Kernel) (h : RulesKept K) where
   frame_at : {t : ℕ} {fr : Frame} {d e : Part} → FrameFits K t fr d e → PlaceKeeps (passes_from [] K.codes) d → frame_keeps (passes_from [] K.codes) fr × PlaceKeeps (passes_from [] K.codes) e
   frame_at (around_statement {b = b} {rest = rest} {s = s} done q z i) k = (tt, stmt_at _ done s rest (subst (ListKeeps _) q (list_keeps _ b k)))
   frame_at (around_end z i) k = (tt, tt)
   frame_at (around_instance {seat = seat} done c q z i x y p o) k = (tt, h.codes seat.code c o)
   frame_at (around_part {s = s} b o) k = (tt, part_at _ (out-KStmt s.stmt) b (layer_inside _ s.stmt k.1) o)
   frame_at (around_turn {s = s} c b q o) k = (loop_at _ s.node (out-KStmt s.stmt) k.0, subst (LayerInside (passes_from [] K.codes)) q (layer_inside _ s.stmt k.1))
-  frame_at (around_call {s = s} m es g t c q o) k = absurd (subst (starts_keep (passes_from [] K.codes) s.node) q k.0)
+  frame_at (around_call {s = s} m es g t c q o) k = (tt, h.codes m c o)
   frame_at (around_branch {s = s} c slot bs b cs q x y) k = (tt, block_at _ bs b cs (subst (LayerInside (passes_from [] K.codes)) q (layer_inside _ s.stmt k.1)))
 
   pub focus_at : {t : ℕ} (f : Focus Act) {d e : Part} → Around K t Act f d e → PlaceKeeps (passes_from [] K.codes) d → focus_keeps (passes_from [] K.codes) f × PlaceKeeps (passes_from [] K.codes) e
@@ -124,5 +120,9 @@ module _ (K : Kernel) (h : PaysInside K) where
   focus_at (Here a) nothing_around k = (tt, k)
   focus_at (In fr f) (one_around x more) k = let y = frame_at x k in let z = focus_at f more y.1 in ((y.0, z.0), z.1)
 
-  pub leaf_at : {t : ℕ} (f : Focus Act) {d e : Part} → Around K t Act f d e → ActFits e (leaf f) → PlaceKeeps (passes_from [] K.codes) d → act_keeps (passes_from [] K.codes) (leaf f)
+  pub leaf_at : {t : ℕ} (f : Focus Act) {d e : Part} → Around K t Act f d e → ActFits e (leaf f) → PlaceKeeps (passes_from [] K.codes) d → act_kept (passes_from [] K.codes) (leaf f)
   leaf_at f a b k = act_at _ b (focus_at f a k).1
+
+  -- wherever a trail of the program has its turn
+  pub turn_keeps : {t : ℕ} (f : Focus Act) → TurnFits K t (program_part K) f → focus_keeps (passes_from [] K.codes) f × act_kept (passes_from [] K.codes) (leaf f)
+  turn_keeps f t = ((focus_at f t.around h.body).0, leaf_at f t.around t.acts h.body)

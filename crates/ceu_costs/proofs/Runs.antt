@@ -1,4 +1,4 @@
--- In a reaction no more turns begin and no more levels open than were to pay where it began.
+-- Where steps pay, no more turns begin and no more levels open in a reaction than were to pay where it began.
 use Rattle.std.proofs.Common.{◌≡◌, refl, ap, ◌≤◌, ℕ, zero, suc, ◌+◌, ◌-◌, Bool, true, false, if◌then◌else◌, List, [], Option, Some, None, arith}
 use Rattle.std.proofs.lemmas.Bool.{false≢true}
 use Rattle.ceu_base.specs.declared.kinds.Pos.{Pos}
@@ -12,21 +12,17 @@ use Rattle.ceu_tree.specs.World.{World}
 use Rattle.ceu_tree.specs.Wake.{runs_at}
 use Rattle.ceu_tree.specs.Leaf.{Layer}
 use Rattle.ceu_tree.specs.Paths.{Way, passes_from}
-use Rattle.ceu_tree.specs.Costs.{Cost, cost, nothing, plus, paced, bounds}
+use Rattle.ceu_tree.specs.Costs.{Cost, cost, nothing, plus, paced}
 use Rattle.ceu_tree.specs.Around.{Outcome, Goes, Rests, Raises, Fails, Ends}
 use Rattle.ceu_tree.specs.Step.{stepped}
-use Rattle.ceu_tree.specs.Run.{Config, Turning, Between, Waiting, Ended, Faulted, config_of, unless_failed, chosen_at, next, steps, booted}
-use Rattle.ceu_legal.specs.Shape.{program_part, ConfigFits}
-use Rattle.ceu_legal.proofs.RunFits.{next_fits, booted_fits}
+use Rattle.ceu_tree.specs.Run.{Config, Turning, Between, Waiting, Ended, Faulted, config_of, unless_failed, chosen_at, next, steps}
 use Rattle.ceu_bound.specs.Filled.{emitting, entering}
-use Rattle.ceu_endings.specs.Counted.{focus_counted, Counted}
-use Rattle.ceu_endings.proofs.CountedRuns.{next_kept, booted_kept}
 use Rattle.ceu_costs.specs.Ways.{goes_on, ways}
 use Rattle.ceu_costs.specs.Due.{at_await, at_head, running, head_due, due_in_loop, due, due_of_branches, due_of_instances, due_at_head, due_in, to_pay}
-use Rattle.ceu_costs.specs.Pays.{Within, Comes}
-use Rattle.ceu_costs.specs.Programs.{PaysInside, begins, opens, turns_begun, levels_opened, level_of}
-use Rattle.ceu_costs.proofs.Places.{focus_at, leaf_at}
-use Rattle.ceu_costs.proofs.Turns.{step_pays, resumption_counted, boot_within}
+use Rattle.ceu_costs.specs.Pays.{Within}
+use Rattle.ceu_costs.specs.Whole.{PaidBy}
+use Rattle.ceu_costs.specs.Programs.{begins, opens, turns_begun, levels_opened, level_of}
+use Rattle.ceu_costs.proofs.Turns.{resumption_counted}
 
 -- ---- where a leaf can run there is a turn to pay
 
@@ -125,93 +121,89 @@ module _ (K : Kernel) where
 
 -- ---- a reaction
 
-module _ (K : Kernel) (h : PaysInside K) where
+module _ (K : Kernel) where
   -- what is to pay beside the turn that is on
-  abbrev to_begin : Config → ℕ
+  abbrev pub to_begin : Config → ℕ
   to_begin (Turning n f w) = (due_in K (plug f (Run n (leaf f)))).turns - 1
   to_begin (Between n r w) = (due_in K r).turns
   to_begin c = 0
+
+  -- what a step of the whole pays, by the tables of the program
+  abbrev pub Paid : (level : ℕ) → Residual → Outcome → Type 0
+  Paid n r x = PaidBy (passes_from [] K.codes) (emitting K) (entering K) n r x
 
   over_due : (due_in K Over) ≡ nothing
   unfolding due
   over_due = refl
 
-  comes_turns : (n : ℕ) (r : Residual) (x : Outcome) (u : World) → Comes (passes_from [] K.codes) (emitting K) (entering K) n (program_part K) r x → to_begin (config_of n x u) ≤ (due_in K r).turns - 1
-  comes_turns n r (Goes g) u c = let i = c.costs.turns in omega (arith, i)
-  comes_turns n r (Rests q) u c = let i = c.costs.turns in omega (arith, i)
-  comes_turns n r (Raises q) u c = let i = c.costs.turns in omega (arith, i)
+  pub comes_turns : (n : ℕ) (r : Residual) (x : Outcome) (u : World) → Paid n r x → to_begin (config_of n x u) ≤ (due_in K r).turns - 1
+  comes_turns n r (Goes g) u c = let i = c.turns in omega (arith, i)
+  comes_turns n r (Rests q) u c = let i = c.turns in omega (arith, i)
+  comes_turns n r (Raises q) u c = let i = c.turns in omega (arith, i)
   comes_turns n r (Fails e q) u c = omega arith
   comes_turns n r (Ends v) u c = omega arith
   comes_turns n r x u c = let i = ap (λ y. y.turns) over_due in omega (arith, i)
 
-  comes_levels : (n : ℕ) (r : Residual) (x : Outcome) (u : World) → Comes (passes_from [] K.codes) (emitting K) (entering K) n (program_part K) r x → opens n (config_of n x u) + (to_pay K (config_of n x u)).opens ≤ (due_in K r).opens
-  comes_levels n r (Goes g) u c = let i = c.costs.opens in omega (arith, i)
-  comes_levels n r (Rests q) u c = let i = c.costs.opens in omega (arith, i)
-  comes_levels n r (Raises q) u c = let i = c.costs.opens in omega (arith, i)
+  pub comes_levels : (n : ℕ) (r : Residual) (x : Outcome) (u : World) → Paid n r x → opens n (config_of n x u) + (to_pay K (config_of n x u)).opens ≤ (due_in K r).opens
+  comes_levels n r (Goes g) u c = let i = c.opens in omega (arith, i)
+  comes_levels n r (Rests q) u c = let i = c.opens in omega (arith, i)
+  comes_levels n r (Raises q) u c = let i = c.opens in omega (arith, i)
   comes_levels n r (Fails e q) u c = omega arith
   comes_levels n r (Ends v) u c = omega arith
   comes_levels n r x u c = let i = ap (λ y. y.opens) over_due in omega (arith, i)
 
-  failed_turns : (c : Config) (u : World) (m : ℕ) → to_begin c ≤ m → to_begin (unless_failed u c) ≤ m
+  pub failed_turns : (c : Config) (u : World) (m : ℕ) → to_begin c ≤ m → to_begin (unless_failed u c) ≤ m
   failed_turns c u m l = go u.fault
     where
       go : (o : Option (Fault × Pos)) → to_begin (elim o [ Some e ↦ Faulted e u | None ↦ c ]) ≤ m
       go None = l
       go (Some e) = omega arith
 
-  failed_levels : (n : ℕ) (c : Config) (u : World) (m : ℕ) → opens n c + (to_pay K c).opens ≤ m → opens n (unless_failed u c) + (to_pay K (unless_failed u c)).opens ≤ m
+  pub failed_levels : (n : ℕ) (c : Config) (u : World) (m : ℕ) → opens n c + (to_pay K c).opens ≤ m → opens n (unless_failed u c) + (to_pay K (unless_failed u c)).opens ≤ m
   failed_levels n c u m l = go u.fault
     where
       go : (o : Option (Fault × Pos)) → opens n (elim o [ Some e ↦ Faulted e u | None ↦ c ]) + (to_pay K (elim o [ Some e ↦ Faulted e u | None ↦ c ])).opens ≤ m
       go None = l
       go (Some e) = omega arith
 
-  step_comes : (n : ℕ) (f : Focus Act) (w : World) → ConfigFits K (Turning n f w) → focus_counted f → Comes (passes_from [] K.codes) (emitting K) (entering K) n (program_part K) (plug f (Run n (leaf f))) (stepped K n Program f w).outcome
-  step_comes n f w t m = step_pays (passes_from [] K.codes) (emitting K) (entering K) K h.proper n f w t m (focus_at K h f t.around h.body).0 (leaf_at K h f t.around t.acts h.body)
-
-  chosen_turns : (k n : ℕ) (r : Residual) (w : World) (o : Option (Focus Act)) → choose Act (runs_at n) r ≡ o → turns_begun K k (chosen_at n o r w) ≤ to_begin (chosen_at n o r w) → begins (chosen_at n o r w) + turns_begun K k (chosen_at n o r w) ≤ (due_in K r).turns
+  pub chosen_turns : (k n : ℕ) (r : Residual) (w : World) (o : Option (Focus Act)) → choose Act (runs_at n) r ≡ o → turns_begun K k (chosen_at n o r w) ≤ to_begin (chosen_at n o r w)
+      → begins (chosen_at n o r w) + turns_begun K k (chosen_at n o r w) ≤ (due_in K r).turns
   chosen_turns k n r w (Some f) e i =
       let a = turn_alive (passes_from [] K.codes) (emitting K) (entering K) n f in
       let s = ap (λ q. (due_in K q).turns) (resumption_counted n r f e) in omega (arith, a, s, i)
   chosen_turns k zero r w None e i = omega (arith, i)
   chosen_turns k (suc n) r w None e i = omega (arith, i)
 
-  chosen_levels : (n : ℕ) (r : Residual) (w : World) (o : Option (Focus Act)) → choose Act (runs_at n) r ≡ o → (to_pay K (chosen_at n o r w)).opens ≤ (due_in K r).opens
+  pub chosen_levels : (n : ℕ) (r : Residual) (w : World) (o : Option (Focus Act)) → choose Act (runs_at n) r ≡ o → (to_pay K (chosen_at n o r w)).opens ≤ (due_in K r).opens
   chosen_levels n r w (Some f) e = let s = ap (λ q. (due_in K q).opens) (resumption_counted n r f e) in omega (arith, s)
   chosen_levels zero r w None e = omega arith
   chosen_levels (suc n) r w None e = omega arith
 
-  pub turns_within : (k : ℕ) (c : Config) → ConfigFits K c → Counted c → turns_begun K k c ≤ to_begin c
-  unfolding turns_begun next
-  turns_within zero c f m = omega arith
-  turns_within (suc k) (Turning n f w) t m =
-      let i = turns_within k (next K (Turning n f w)) (next_fits K h.proper (Turning n f w) t) (next_kept K (Turning n f w) m) in
-      let s = stepped K n Program f w in
-      let j = failed_turns (config_of n s.outcome s.world) s.world _ (comes_turns n _ s.outcome s.world (step_comes n f w t m)) in omega (arith, i, j)
-  turns_within (suc k) (Between n r w) t m =
-      chosen_turns k n r w (choose Act (runs_at n) r) refl (turns_within k (next K (Between n r w)) (next_fits K h.proper (Between n r w) t) (next_kept K (Between n r w) m))
-  turns_within (suc k) (Waiting r w) t m = omega arith
-  turns_within (suc k) (Ended v w) t m = omega arith
-  turns_within (suc k) (Faulted e w) t m = omega arith
+  -- Where steps pay in each configuration that `Stands`, and keep that, a reaction begins no more turns and opens no more levels than are to pay.
+  module _ (Stands : Config → Type 0) (keeps : (c : Config) → Stands c → Stands (next K c))
+      (pays : (n : ℕ) (f : Focus Act) (w : World) → Stands (Turning n f w) → Paid n (plug f (Run n (leaf f))) (stepped K n Program f w).outcome) where
+    pub turns_within : (k : ℕ) (c : Config) → Stands c → turns_begun K k c ≤ to_begin c
+    unfolding turns_begun next
+    turns_within zero c h = omega arith
+    turns_within (suc k) (Turning n f w) h =
+        let i = turns_within k (next K (Turning n f w)) (keeps (Turning n f w) h) in
+        let s = stepped K n Program f w in
+        let j = failed_turns (config_of n s.outcome s.world) s.world _ (comes_turns n _ s.outcome s.world (pays n f w h)) in omega (arith, i, j)
+    turns_within (suc k) (Between n r w) h = chosen_turns k n r w (choose Act (runs_at n) r) refl (turns_within k (next K (Between n r w)) (keeps (Between n r w) h))
+    turns_within (suc k) (Waiting r w) h = omega arith
+    turns_within (suc k) (Ended v w) h = omega arith
+    turns_within (suc k) (Faulted e w) h = omega arith
 
-  pub levels_within : (k : ℕ) (c : Config) → ConfigFits K c → Counted c → levels_opened K k c ≤ (to_pay K c).opens
-  unfolding levels_opened next
-  levels_within zero c f m = omega arith
-  levels_within (suc k) (Turning n f w) t m =
-      let i = levels_within k (next K (Turning n f w)) (next_fits K h.proper (Turning n f w) t) (next_kept K (Turning n f w) m) in
-      let s = stepped K n Program f w in
-      let j = failed_levels n (config_of n s.outcome s.world) s.world _ (comes_levels n _ s.outcome s.world (step_comes n f w t m)) in omega (arith, i, j)
-  levels_within (suc k) (Between n r w) t m =
-      let i = levels_within k (next K (Between n r w)) (next_fits K h.proper (Between n r w) t) (next_kept K (Between n r w) m) in
-      let j = chosen_levels n r w (choose Act (runs_at n) r) refl in omega (arith, i, j)
-  levels_within (suc k) (Waiting r w) t m = omega arith
-  levels_within (suc k) (Ended v w) t m = omega arith
-  levels_within (suc k) (Faulted e w) t m = omega arith
-
-  pub first_within : (k : ℕ) → (turns_begun K k (booted K) ≤ (bounds K).turns) × (levels_opened K k (booted K) ≤ (bounds K).opens) × (level_of (steps K k (booted K)) ≤ (bounds K).opens)
-  first_within k =
-      let b = boot_within K in
-      let t = turns_within k (booted K) (booted_fits K h.proper) (booted_kept K) in
-      let l = levels_within k (booted K) (booted_fits K h.proper) (booted_kept K) in
-      let m = level_bounded K k (booted K) in
-      let b0 = b.turns in let b1 = b.opens in (omega (arith, t, b0), omega (arith, l, b1), omega (arith, l, b1, m))
+    pub levels_within : (k : ℕ) (c : Config) → Stands c → levels_opened K k c ≤ (to_pay K c).opens
+    unfolding levels_opened next
+    levels_within zero c h = omega arith
+    levels_within (suc k) (Turning n f w) h =
+        let i = levels_within k (next K (Turning n f w)) (keeps (Turning n f w) h) in
+        let s = stepped K n Program f w in
+        let j = failed_levels n (config_of n s.outcome s.world) s.world _ (comes_levels n _ s.outcome s.world (pays n f w h)) in omega (arith, i, j)
+    levels_within (suc k) (Between n r w) h =
+        let i = levels_within k (next K (Between n r w)) (keeps (Between n r w) h) in
+        let j = chosen_levels n r w (choose Act (runs_at n) r) refl in omega (arith, i, j)
+    levels_within (suc k) (Waiting r w) h = omega arith
+    levels_within (suc k) (Ended v w) h = omega arith
+    levels_within (suc k) (Faulted e w) h = omega arith

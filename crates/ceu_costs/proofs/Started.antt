@@ -6,8 +6,11 @@ use Rattle.ceu_base.specs.declared.kinds.Pos.{Pos}
 use Rattle.ceu_base.specs.declared.kinds.Fault.{Fault}
 use Rattle.ceu_base.specs.Values.{of_test, same as same_value}
 use Rattle.ceu_tree.specs.declared.kernel.Kernel.{Kernel}
+use Rattle.ceu_tree.specs.declared.kernel.KCode.{KCode}
+use Rattle.ceu_tree.specs.declared.kernel.KExp.{KExp}
 use Rattle.ceu_tree.specs.declared.kernel.KLoop.{KLoop}
 use Rattle.ceu_tree.specs.declared.kernel.KLoop.TheVariants as turns
+use Rattle.ceu_tree.specs.declared.kernel.Loc.{Loc}
 use Rattle.ceu_tree.specs.declared.kernel.ParKind.{ParKind}
 use Rattle.ceu_tree.specs.declared.kernel.KArm.{KArm, out-KArm}
 use Rattle.ceu_tree.specs.declared.kernel.KNode.{KNode}
@@ -18,11 +21,11 @@ use Rattle.ceu_tree.proofs.EnterLaws.{enter_of_block, enter_of_arm}
 use Rattle.ceu_tree.proofs.PathLaws.{quick_of_block}
 use Rattle.ceu_tree.proofs.CalmLaws.{paced_of_body}
 use Rattle.ceu_tree.specs.Proper.{Scope}
-use Rattle.ceu_tree.specs.Residual.{Body, Act, Begin, Start, Finish, AtEnd, AtHead, Again, Counter, Free, Turns, Upward, Residual, Run, WaitInput, WaitTime, WaitEvent, WaitForever, InAsync, Block, Open, Loop, Par, no_instance}
+use Rattle.ceu_tree.specs.Residual.{Body, Act, Begin, Start, Finish, AtEnd, AtHead, Again, Counter, Free, Turns, Upward, Residual, Run, WaitInput, WaitTime, WaitEvent, WaitForever, InAsync, Block, Open, Loop, Call, Par, no_instance}
 use Rattle.ceu_tree.specs.Focus.{plug, leaf}
-use Rattle.ceu_tree.specs.World.{World}
-use Rattle.ceu_tree.specs.Expressions.{value_of, value_if}
-use Rattle.ceu_tree.specs.Leaf.{Layer, Escape, Break, Continue, Does, Opens, Waits, Leaves, Emits, Spawns, Kills, Fails, Done, or_fails, chosen_part, branches_from, in_branches, opened, loop_reached, started, next_of, rest_of, acted}
+use Rattle.ceu_tree.specs.World.{World, Cell, Names, look}
+use Rattle.ceu_tree.specs.Expressions.{names_living, value_of, value_if, values_of}
+use Rattle.ceu_tree.specs.Leaf.{Layer, Escape, Break, Continue, Does, Opens, Waits, Passes, Leaves, Emits, Spawns, Kills, Fails, Done, or_fails, code_at, chosen_part, branches_from, in_branches, opened, loop_reached, called, spawning, killing, started, next_of, rest_of, acted}
 use Rattle.ceu_tree.specs.Around.{is_over, kind_of}
 use Rattle.ceu_tree.specs.Paths.{Way, ToEnd, is_end, is_escape, is_break, is_continue, has_end, end_if, constant_bound, is_range, runs_out, loop_ways, do_ways, par_ways, gathered, all_blocks_end, quick_arm, quick_block}
 use Rattle.ceu_tree.specs.Costs.{Cost, cost, nothing, plus, times, most, most_of, sum_of, without_one, loop_times, paced, paced_nodes, awaited_event, calm_node, enter_block, enter_arm, enter_branch}
@@ -31,7 +34,8 @@ use Rattle.ceu_endings.proofs.Turns.{exactly, turns_begin_with}
 use Rattle.ceu_costs.specs.Ways.{leads_to, outward, out_of, goes_on, to_begin, ways_of_turns, head_ways, ways_of_loop, act_ways, ways, ways_of_branches, each_may_end}
 use Rattle.ceu_costs.specs.Due.{is_await, at_await, running, times_of_turns, head_times, head_due, due_in_loop, act_due, due, due_of_branches}
 use Rattle.ceu_costs.specs.Pays.{Within, IsOf, Fewer, way_of, is_paced, Pays, Leaving}
-use Rattle.ceu_costs.specs.Starts.{PartKeeps, arms_keep, branches_keep, par_keeps, starts_keep, act_keeps}
+use Rattle.ceu_costs.specs.Starts.{PartKeeps, arms_keep, branches_keep, par_keeps}
+use Rattle.ceu_costs.specs.Kept.{starts_kept, act_kept, CodesPay}
 use Rattle.ceu_costs.proofs.WayLists.{among_case, among_left, among_right, any_among, any_some, any_sub, and_sub, or_case, or_sub, filter_in, filter_out, end_out, sub_append, sub_end, sub_out, sub_par}
 use Rattle.ceu_costs.proofs.Cost.{same, is, chain, both, first, least, unpaid, more_times, fewer_turns}
 use Rattle.ceu_costs.proofs.LoopSteps.{clear_fewer, loop_end}
@@ -97,6 +101,11 @@ most_more a b c h = let h0 = h.turns in let h1 = h.opens in record { turns = ome
 without_turn : (a : Cost) → 1 ≤ a.turns → Within a (plus (cost 1 0) (without_one a))
 without_turn a h = record { turns = omega (arith, h); opens = omega arith }
 
+-- a leaf that starts a statement
+pub record StartsAt (n : ℕ) (r : Residual) (s : KNode) (layer : Layer) : Type 0 where
+  pub was : r ≡ Run n (Start s)
+  pub is : out-KStmt s.stmt ≡ layer
+
 module _ (P : List Bool) (E N : List Cost) (n : ℕ) where
   arm_costs : (arms : List KArm) (b : KBlock) → among_arms arms b → Within (enter_block P E N b) (most_of (enter_arm P E N) arms)
   arm_costs [] b o = absurd o
@@ -135,9 +144,9 @@ module _ (P : List Bool) (E N : List Cost) (n : ℕ) where
   DoesPay d r (Opens x) = Pays P E N d nothing (plug x (Run n (leaf x))) r
   DoesPay d r (Waits q) = Pays P E N d (cost 1 0) q r
   DoesPay d r (Leaves node x) = Leaving P E N r (way_of node x)
-  DoesPay d r (Emits s e v) = ⊥
-  DoesPay d r (Spawns s c code pool alias vs) = ⊥
-  DoesPay d r (Kills k) = ⊥
+  DoesPay d r (Emits s e v) = (x : Option KExp) × StartsAt n r s (KStmt-F.Emit e x)
+  DoesPay d r (Spawns s c code pool alias vs) = (es : List KExp) × StartsAt n r s (KStmt-F.Spawn code es pool alias) × Leaving P E N r ToEnd
+  DoesPay d r (Kills k) = (s : KNode) × (c : ℕ) × StartsAt n r s (KStmt-F.Kill c) × Leaving P E N r ToEnd
   DoesPay d r (Fails e) = Unit {0}
   DoesPay d r x = Leaving P E N r ToEnd
 
@@ -245,6 +254,15 @@ module _ (P : List Bool) (E N : List Cost) (n : ℕ) where
 
   -- ---- statement by statement
 
+  -- what is known of code that is awaited
+  abbrev pub CallPays : Kernel → Layer → Type 0
+  CallPays K (KStmt-F.AwaitCode c es f t) = (k : KCode) × (code_at c K.codes ≡ Some k) × CodesPay P E N K
+  CallPays K layer = Unit {0}
+
+  abbrev pub ActCalls : Kernel → Act → Type 0
+  ActCalls K (Start s) = CallPays K (out-KStmt s.stmt)
+  ActCalls K a = Unit {0}
+
   chosen_pays : (d : Part) (r : Residual) (arms : List KArm) (last : KBlock) (body : Body) (w : World) (go : KBlock → Done)
       → ((b : KBlock) → among_arms arms b ⊎ (last ≡ b) → DoesPay d r (go b).does) → DoesPay d r (or_fails (chosen_part arms last body w) w go).does
   chosen_pays d r [] last body w go h = h last (inr refl)
@@ -300,29 +318,48 @@ module _ (P : List Bool) (E N : List Cost) (n : ℕ) where
         (λ v i. among_right v (gathered (quick_arm P) arms) _ (subst (λ c. IsOf (quick_block P c) v) (sym o)
         (clear_fewer s.node (quick_block P b) z.1 v (sub_out s.node _ _ (clear_fewer (out-KBlock b).node (quick_block P b) z.0) v i)))) refl
 
-    started_pays : (K : Kernel) (layer : Layer) → out-KStmt s.stmt ≡ layer → starts_keep P s.node layer → DoesPay (AStatement sc s) (Run n (Start s)) (started K n body s layer w).does
+    call_pays : (K : Kernel) (c : ℕ) (es : List KExp) (f : ℕ) (t : Option Loc) → out-KStmt s.stmt ≡ KStmt-F.AwaitCode c es f t → CallPays K (KStmt-F.AwaitCode c es f t) → (o : Option KCode) → code_at c K.codes ≡ o → (vs : List ℤ)
+        → DoesPay (AStatement sc s) (Run n (Start s)) (called s o vs body w).does
     unfolding due ways
-    started_pays K (KStmt-F.Emit k x) e h = absurd h
-    started_pays K (KStmt-F.Spawn c es p a) e h = absurd h
-    started_pays K (KStmt-F.Kill c) e h = absurd h
-    started_pays K (KStmt-F.AwaitCode c es f t) e h = absurd h
-    started_pays K KStmt-F.Nothing e h = leaves_as sc s _ e ToEnd (inl refl) refl
-    started_pays K (KStmt-F.Assign l x) e h = or_pays (AStatement sc s) _ (value_of x body w) w _ (λ v z. leaves_as sc s _ e ToEnd (inl refl) refl)
-    started_pays K (KStmt-F.Out k x) e h = or_pays (AStatement sc s) _ (value_if x body w) w _ (λ v z. leaves_as sc s _ e ToEnd (inl refl) refl)
-    started_pays K (KStmt-F.AwaitIn k t) e h = outside_as sc s _ e (WaitInput k s) refl refl refl refl
-    started_pays K (KStmt-F.AwaitTime x u t) e h = or_pays (AStatement sc s) _ (value_of x body w) w _ (λ v z. outside_as sc s _ e (WaitTime _ s) refl refl refl refl)
-    started_pays K (KStmt-F.AwaitEvent k t) e h = waits_as sc s _ e (WaitEvent k s) refl (same _) (λ v i. i) (λ a. (refl, same _))
-    started_pays K KStmt-F.Forever e h = outside_as sc s _ e (WaitForever s) refl refl refl refl
-    started_pays K (KStmt-F.Unset c) e h = leaves_as sc s _ e ToEnd (inl refl) refl
-    started_pays K (KStmt-F.Async b) e h = outside_as sc s _ e (InAsync s false (Run 0 (Begin b))) refl refl refl refl
-    started_pays K (KStmt-F.Finalize b) e h = leaves_as sc s _ e ToEnd (inl refl) refl
-    started_pays K (KStmt-F.Do t b) e h = part_opens sc s _ e b (same _) (sub_do s.node _ (quick_block P b) (clear_fewer (out-KBlock b).node (quick_block P b) h.0) h.1) refl
-    started_pays K (KStmt-F.Escape m x) e h = or_pays (AStatement sc s) _ (value_if x body w) w _ (λ v z. leaves_as sc s _ e (way_of m (Escape v)) (inl refl) refl)
-    started_pays K (KStmt-F.Break m) e h = leaves_as sc s _ e (way_of m Break) (inl refl) refl
-    started_pays K (KStmt-F.Continue m) e h = leaves_as sc s _ e (way_of m Continue) (inl refl) refl
-    started_pays K (KStmt-F.If arms last) e h = chosen_pays (AStatement sc s) (Run n (Start s)) arms last body w _ (if_pays arms last e h.0 h.1)
-    started_pays K (KStmt-F.Loop k b) e h = loop_pays k b e
-    started_pays K (KStmt-F.Par k slot bs) e h = par_pays k slot bs e h
+    call_pays K c es f t e h None q vs = let there = h.1 in absurd (cc)
+    call_pays K c es f t e h (Some k) q vs =
+        opens_as sc s _ e (Call s (Run n (Begin k.body))) refl (both _ _ _ _ (same (cost 1 0)) (is _ _ (sym (h.2.enters c k q)))) (h.2.leaves c k q) refl
+
+    spawn_pays : (c : ℕ) (es : List KExp) (p : ℕ) (a : Option ℕ) (o : Option KCode) (vs : List ℤ) → out-KStmt s.stmt ≡ KStmt-F.Spawn c es p a → DoesPay (AStatement sc s) (Run n (Start s)) (spawning s o c p a vs w).does
+    spawn_pays c es p a None vs e = leaves_as sc s _ e ToEnd (inl refl) refl
+    spawn_pays c es p a (Some k) vs e = (es, record { was = refl; is = e }, leaves_as sc s _ e ToEnd (inl refl) refl)
+
+    kill_pays : (c : ℕ) (o : Option Cell) (living : List ℕ) → out-KStmt s.stmt ≡ KStmt-F.Kill c → DoesPay (AStatement sc s) (Run n (Start s)) (killing o living)
+    kill_pays c (Some (Names m)) living e = go (names_living (Some (Names m)) living)
+      where
+        go : (b : Bool) → DoesPay (AStatement sc s) (Run n (Start s)) (if b then Kills m else Passes)
+        go true = (s, c, record { was = refl; is = e }, leaves_as sc s _ e ToEnd (inl refl) refl)
+        go false = leaves_as sc s _ e ToEnd (inl refl) refl
+    kill_pays c o living e = leaves_as sc s _ e ToEnd (inl refl) refl
+
+    started_pays : (K : Kernel) (layer : Layer) → out-KStmt s.stmt ≡ layer → starts_kept P s.node layer → CallPays K layer → DoesPay (AStatement sc s) (Run n (Start s)) (started K n body s layer w).does
+    unfolding due ways
+    started_pays K (KStmt-F.Emit k x) e h c = or_pays (AStatement sc s) _ (value_if x body w) w _ (λ v z. (x, record { was = refl; is = e }))
+    started_pays K (KStmt-F.Spawn i es p a) e h c = or_pays (AStatement sc s) _ (values_of es body w) w _ (λ vs z. spawn_pays i es p a (code_at i K.codes) vs e)
+    started_pays K (KStmt-F.Kill i) e h c = kill_pays i (look body i w.values) w.living e
+    started_pays K (KStmt-F.AwaitCode i es f t) e h c = or_pays (AStatement sc s) _ (values_of es body w) w _ (λ vs z. call_pays K i es f t e c (code_at i K.codes) refl vs)
+    started_pays K KStmt-F.Nothing e h c = leaves_as sc s _ e ToEnd (inl refl) refl
+    started_pays K (KStmt-F.Assign l x) e h c = or_pays (AStatement sc s) _ (value_of x body w) w _ (λ v z. leaves_as sc s _ e ToEnd (inl refl) refl)
+    started_pays K (KStmt-F.Out k x) e h c = or_pays (AStatement sc s) _ (value_if x body w) w _ (λ v z. leaves_as sc s _ e ToEnd (inl refl) refl)
+    started_pays K (KStmt-F.AwaitIn k t) e h c = outside_as sc s _ e (WaitInput k s) refl refl refl refl
+    started_pays K (KStmt-F.AwaitTime x u t) e h c = or_pays (AStatement sc s) _ (value_of x body w) w _ (λ v z. outside_as sc s _ e (WaitTime _ s) refl refl refl refl)
+    started_pays K (KStmt-F.AwaitEvent k t) e h c = waits_as sc s _ e (WaitEvent k s) refl (same _) (λ v i. i) (λ a. (refl, same _))
+    started_pays K KStmt-F.Forever e h c = outside_as sc s _ e (WaitForever s) refl refl refl refl
+    started_pays K (KStmt-F.Unset i) e h c = leaves_as sc s _ e ToEnd (inl refl) refl
+    started_pays K (KStmt-F.Async b) e h c = outside_as sc s _ e (InAsync s false (Run 0 (Begin b))) refl refl refl refl
+    started_pays K (KStmt-F.Finalize b) e h c = leaves_as sc s _ e ToEnd (inl refl) refl
+    started_pays K (KStmt-F.Do t b) e h c = part_opens sc s _ e b (same _) (sub_do s.node _ (quick_block P b) (clear_fewer (out-KBlock b).node (quick_block P b) h.0) h.1) refl
+    started_pays K (KStmt-F.Escape m x) e h c = or_pays (AStatement sc s) _ (value_if x body w) w _ (λ v z. leaves_as sc s _ e (way_of m (Escape v)) (inl refl) refl)
+    started_pays K (KStmt-F.Break m) e h c = leaves_as sc s _ e (way_of m Break) (inl refl) refl
+    started_pays K (KStmt-F.Continue m) e h c = leaves_as sc s _ e (way_of m Continue) (inl refl) refl
+    started_pays K (KStmt-F.If arms last) e h c = chosen_pays (AStatement sc s) (Run n (Start s)) arms last body w _ (if_pays arms last e h.0 h.1)
+    started_pays K (KStmt-F.Loop k b) e h c = loop_pays k b e
+    started_pays K (KStmt-F.Par k slot bs) e h c = par_pays k slot bs e h
 
   -- ---- a block that begins
 
@@ -350,10 +387,10 @@ module _ (P : List Bool) (E N : List Cost) (n : ℕ) where
         await = λ h. absurd (false≢true h);
       }
 
-  pub acted_pays : (K : Kernel) (d : Part) (a : Act) (body : Body) (w : World) → ActFits d a → act_keeps P a → DoesPay d (Run n a) (acted K n body a w).does
-  acted_pays K d (Begin b) body w (begins {turn = turn} {sc = sc}) h = begun_pays turn sc b
-  acted_pays K d (Start s) body w (starts {sc = sc}) h = started_pays sc s body w K (out-KStmt s.stmt) refl h
-  acted_pays K d (Finish s v) body w (finishes p) h = run_leaves (Finish s v) ToEnd (inl refl) refl
-  acted_pays K d AtEnd body w ends h = run_leaves AtEnd ToEnd (inl refl) refl
-  acted_pays K d AtHead body w heads h = run_leaves AtHead ToEnd (inl refl) refl
-  acted_pays K d Again body w goes_again h = run_leaves Again ToEnd (inl refl) refl
+  pub acted_pays : (K : Kernel) (d : Part) (a : Act) (body : Body) (w : World) → ActFits d a → act_kept P a → ActCalls K a → DoesPay d (Run n a) (acted K n body a w).does
+  acted_pays K d (Begin b) body w (begins {turn = turn} {sc = sc}) h c = begun_pays turn sc b
+  acted_pays K d (Start s) body w (starts {sc = sc}) h c = started_pays sc s body w K (out-KStmt s.stmt) refl h c
+  acted_pays K d (Finish s v) body w (finishes p) h c = run_leaves (Finish s v) ToEnd (inl refl) refl
+  acted_pays K d AtEnd body w ends h c = run_leaves AtEnd ToEnd (inl refl) refl
+  acted_pays K d AtHead body w heads h c = run_leaves AtHead ToEnd (inl refl) refl
+  acted_pays K d Again body w goes_again h c = run_leaves Again ToEnd (inl refl) refl

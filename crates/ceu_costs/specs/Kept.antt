@@ -6,6 +6,7 @@ use Rattle.ceu_tree.specs.declared.kernel.KArm.{KArm, KArm'}
 use Rattle.ceu_tree.specs.declared.kernel.KBlock.{KBlock, KBlock', out-KBlock, Row_of-KNode, end_of-KNode, more_of-KNode}
 use Rattle.ceu_tree.specs.declared.kernel.KStmt.{KStmt, out-KStmt, Row_of-KArm, end_of-KArm, more_of-KArm, Row_of-KBlock, end_of-KBlock, more_of-KBlock, Do, If', Loop, Par'}
 use Rattle.ceu_tree.specs.declared.kernel.KStmt.TheOpen.{KStmt-F}
+use Rattle.ceu_tree.specs.Residual.{Act, Start}
 use Rattle.ceu_tree.specs.Leaf.{Layer, code_at}
 use Rattle.ceu_tree.specs.Paths.{end_if, flag, quick_block, passes_from}
 use Rattle.ceu_tree.specs.Costs.{Cost, cost_at, enter_block, stay_block}
@@ -21,6 +22,21 @@ starts_kept passing node (KStmt-F.If arms last) = arms_keep passing node arms ×
 starts_kept passing node (KStmt-F.Loop k b) = LoopKeeps passing node k b
 starts_kept passing node (KStmt-F.Par k slot bs) = par_keeps passing bs
 starts_kept passing node layer = Unit {0}
+
+abbrev pub act_kept : List Bool → Act → Type 0
+act_kept passing (Start s) = starts_kept passing s.node (out-KStmt s.stmt)
+act_kept passing a = Unit {0}
+
+-- an emission, a spawn and a kill reach beyond the trail's own part
+abbrev pub stays_inside : Layer → Type 0
+stays_inside (KStmt-F.Emit e x) = ⊥
+stays_inside (KStmt-F.Spawn c es p a) = ⊥
+stays_inside (KStmt-F.Kill c) = ⊥
+stays_inside layer = Unit {0}
+
+abbrev pub acts_inside : Act → Type 0
+acts_inside (Start s) = stays_inside (out-KStmt s.stmt)
+acts_inside a = Unit {0}
 
 -- every statement of a part, outside asyncs and finalizers
 module _ (passing : List Bool) where

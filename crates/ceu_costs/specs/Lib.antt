@@ -4,5 +4,6 @@ pub mod Pays
 pub mod Starts
 pub mod Kept
 pub mod Heads
+pub mod Whole
 pub mod Programs
 pub mod Laws
