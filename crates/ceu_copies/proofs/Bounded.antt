@@ -1,5 +1,5 @@
 -- From the last code down: a body's open bodies of a code are at most those that the table of instances has.
-use Rattle.std.proofs.Common.{◌≡◌, refl, sym, ap, ◌∙◌, subst, ◌≤◌, ℕ, zero, suc, ◌+◌, ◌*◌, true, List, [], ◌∷◌, Some, None, arith}
+use Rattle.std.proofs.Common.{◌≡◌, refl, ap, ◌∙◌, ◌≤◌, ℕ, zero, suc, ◌+◌, ◌*◌, true, List, [], ◌∷◌, Some, None, arith}
 use Rattle.ceu_tree.specs.declared.kernel.Kernel.{Kernel}
 use Rattle.ceu_tree.specs.declared.kernel.KCode.{KCode}
 use Rattle.ceu_tree.specs.declared.kernel.KBlock.{KBlock}
@@ -8,7 +8,7 @@ use Rattle.ceu_tree.specs.Costs.{block_uses, held_by, instances_from}
 use Rattle.ceu_tree.specs.Leaf.{code_at}
 use Rattle.ceu_tree.specs.Needs.{entry}
 use Rattle.ceu_tree.specs.Proper.{Scope, is_proper}
-use Rattle.ceu_legal.specs.Shape.{Part, ABlock, Fits, program_part}
+use Rattle.ceu_legal.specs.Shape.{ABlock, Fits, program_part}
 use Rattle.ceu_living.specs.Instances.{pools_stand}
 use Rattle.ceu_copies.specs.Copies.{copies}
 use Rattle.ceu_copies.proofs.Sums.{over, more_times}
@@ -19,10 +19,10 @@ held_nothing : (k : ℕ) (cs : List KCode) → held_by k cs [] ≡ 0
 held_nothing k [] = refl
 held_nothing k (c ∷ cs) = refl
 
-first_at : (f : ℕ → ℕ) (i : ℕ) → f (i + 0) ≡ f i
+pub first_at : (f : ℕ → ℕ) (i : ℕ) → f (i + 0) ≡ f i
 first_at f i = ap f (let e : i + 0 ≡ i = omega arith in e)
 
-next_at : (f : ℕ → ℕ) (i j : ℕ) → f (i + 1 + j) ≡ f (i + suc j)
+pub next_at : (f : ℕ → ℕ) (i j : ℕ) → f (i + 1 + j) ≡ f (i + suc j)
 next_at f i j = ap f (let e : i + 1 + j ≡ i + suc j = omega arith in e)
 
 module _ (f : ℕ → ℕ) (k : ℕ) where

@@ -1,5 +1,5 @@
 -- Each open body of a code is open in one other open body, whose code uses it so often at most.
-use Rattle.std.proofs.Common.{◌≡◌, refl, sym, ap, ◌∙◌, subst, ◌≤◌, ℕ, ◌+◌, List, [], ◌∷◌, ◌++◌, Some, arith}
+use Rattle.std.proofs.Common.{refl, ap, ◌≤◌, ℕ, ◌+◌, List, arith}
 use Rattle.ceu_tree.specs.declared.kernel.Kernel.{Kernel}
 use Rattle.ceu_tree.specs.declared.kernel.KCode.{KCode}
 use Rattle.ceu_tree.specs.declared.kernel.ParKind.{ParKind}
@@ -13,8 +13,7 @@ use Rattle.ceu_tree.specs.Proper.{Scope}
 use Rattle.ceu_tree.proofs.UseLaws.{uses_of_block}
 use Rattle.ceu_legal.specs.Shape.{Part, ABlock, AStatement, AnEnd, Fits, to_begin, to_turn, in_list, to_finish, at_input, at_time, at_event, at_forever, at_async, in_part, in_turn, in_call, in_par, EachFits, no_more, an_ended, a_branch, AllFit, none_lives, one_lives}
 use Rattle.ceu_living.specs.Instances.{pools_stand, each_pools_stand, seats_stand}
-use Rattle.ceu_costs.specs.Pays.{Within}
-use Rattle.ceu_copies.specs.Copies.{one_of, awaits, copies, copies_of_branches, copies_of_instances, weigh_instances, weigh_pools}
+use Rattle.ceu_copies.specs.Copies.{one_of, awaits, copies, copies_of_branches, copies_of_instances, weigh_instances}
 use Rattle.ceu_copies.proofs.Pools.{hold, pool_uses_is}
 use Rattle.ceu_copies.proofs.Layers.{uses_at, part_used, one_used}
 use Rattle.ceu_copies.proofs.Sums.{over, over_plus, over_more, over_one}

@@ -1,6 +1,6 @@
 -- How often a statement uses a code, and what the loops that an event paces cost in it, one level of it open.
 use Rattle.std.proofs.Common.{◌≡◌, refl, sym, ap, ◌∙◌, ◌≤◌, ℕ, ◌+◌, Bool, inl, inr, List, [], ◌∷◌, ◌++◌, arith}
-use Rattle.ceu_tree.specs.declared.kernel.KArm.{KArm, KArm', out-KArm}
+use Rattle.ceu_tree.specs.declared.kernel.KArm.{KArm}
 use Rattle.ceu_tree.specs.declared.kernel.KNode.{KNode}
 use Rattle.ceu_tree.specs.declared.kernel.KBlock.{KBlock}
 use Rattle.ceu_tree.specs.declared.kernel.KStmt.{KStmt, out-KStmt, Row_of-KArm, end_of-KArm, more_of-KArm, items-the_row-KArm, items_shown-the_row-KArm-0, Row_of-KBlock, end_of-KBlock, more_of-KBlock, items-the_row-KBlock, items_shown-the_row-KBlock-1, If', Par'}

@@ -4,3 +4,6 @@ pub mod Sums
 pub mod Copied
 pub mod Used
 pub mod Bounded
+pub mod Heard
+pub mod HeadsWithin
+pub mod Reach

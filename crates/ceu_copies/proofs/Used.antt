@@ -1,5 +1,5 @@
 -- In a proper kernel a body uses codes above it alone.
-use Rattle.std.proofs.Common.{◌≡◌, refl, sym, ap, ◌∙◌, subst, ◌<◌, ◌≤◌, ℕ, ◌+◌, Bool, true, false, if◌then◌else◌, ◌==◌, ◌&&◌, ◌^◌, not, nat_lt, nat_le, List, [], ◌∷◌, Option, Some, None, arith, eqb-true}
+use Rattle.std.proofs.Common.{◌≡◌, refl, sym, ap, ◌∙◌, subst, ◌≤◌, ℕ, ◌+◌, Bool, true, false, if◌then◌else◌, ◌==◌, ◌&&◌, ◌^◌, not, nat_lt, nat_le, List, [], ◌∷◌, Option, Some, None, arith, eqb-true}
 use Rattle.std.proofs.lemmas.Bool.{and_parts, false≢true, ltb-true}
 use Rattle.std.specs.List.{list_all}
 use Rattle.ceu_base.specs.declared.kinds.Ty.TheVariants as ty
@@ -17,7 +17,7 @@ use Rattle.ceu_tree.specs.Costs.{pool_uses, uses, block_uses, arm_uses, nodes_us
 use Rattle.ceu_tree.specs.Leaf.{code_at}
 use Rattle.ceu_tree.specs.Mentions.{all_set}
 use Rattle.ceu_tree.specs.Typing.{same_ty}
-use Rattle.ceu_tree.specs.Proper.{outside_finalizers, Scope, Aim, LoopAim, with_decls, with_aim, with_turns, do_aim, is_trail, is_above, on_code, gives_all, takes_if, decl_ok, stmt_ok, block_ok, arm_ok, nodes_ok, arms_ok, blocks_ok, is_proper}
+use Rattle.ceu_tree.specs.Proper.{outside_finalizers, Scope, LoopAim, with_decls, with_aim, with_turns, do_aim, is_trail, is_above, on_code, gives_all, takes_if, decl_ok, stmt_ok, block_ok, arm_ok, nodes_ok, arms_ok, blocks_ok, is_proper}
 use Rattle.ceu_legal.specs.Shape.{code_scope}
 use Rattle.ceu_legal.proofs.Static.{names_of, code_static, program_static}
 

@@ -2,7 +2,7 @@
 //! empty body.
 #![tactic(auto)]
 
-ghost use Rattle.ceu_copies.specs.Laws.{CopiesWithin, PoolsHold};
+ghost use Rattle.ceu_copies.specs.Laws.{CopiesWithin, EmissionsReach, PoolsHold};
 
 /// What stands in the pools of a block weighs at most what the pools weigh where they are full.
 pub fn pools_hold()
@@ -12,4 +12,10 @@ pub fn pools_hold()
 /// Of each code no more bodies are open in a tree than the table of instances has of it.
 pub fn copies_within()
     ensures { CopiesWithin }
+{}
+
+/// What an emission reaches costs no more than the table of what is woken says: an event of the program reaches all open bodies, an event of a code the
+/// emitter's own body alone.
+pub fn emissions_reach()
+    ensures { EmissionsReach }
 {}
