@@ -1,5 +1,5 @@
 -- The reactions of a program that breaks no rule on loops stay within its bounds.
-use Rattle.std.proofs.Common.{◌≡◌, refl, sym, subst, ◌≤◌, ℕ, ◌+◌, max, ℤ, pos, true, [], Some, arith}
+use Rattle.std.proofs.Common.{◌≡◌, ◌≤◌, ℕ, max, ℤ, pos, true, [], Some, arith}
 use Rattle.std.proofs.lemmas.Grind.{common_steps}
 use Rattle.ceu_tree.specs.declared.kernel.Kernel.{Kernel}
 use Rattle.ceu_tree.specs.Residual.{Program, Act, Finish, Residual, Run}
@@ -9,22 +9,21 @@ use Rattle.ceu_tree.specs.Wake.{each_leaf, runs_at, by_input, later, by_time, Un
 use Rattle.ceu_tree.specs.Paths.{passes_from}
 use Rattle.ceu_tree.specs.Costs.{Cost, most, plus, cost, enter_block, stay_block, bounds}
 use Rattle.ceu_tree.specs.Proper.{is_proper}
-use Rattle.ceu_tree.specs.Run.{Config, Between, Waiting, world_of, booted, steps, Done, serve_first}
+use Rattle.ceu_tree.specs.Run.{Between, Waiting, booted, Done, serve_first}
 use Rattle.ceu_bound.specs.Filled.{emitting, entering, staying}
 use Rattle.ceu_bound.specs.PhaseB.{KeepsLoopRules}
-use Rattle.ceu_endings.specs.Laws.{resumes}
 use Rattle.ceu_costs.specs.Due.{due_in}
 use Rattle.ceu_costs.specs.Pays.{Within}
-use Rattle.ceu_costs.specs.Programs.{turns_begun}
 use Rattle.ceu_costs.proofs.Cost.{chain}
 use Rattle.ceu_costs.proofs.Turns.{boot_within}
 use Rattle.ceu_costs.proofs.Runs.{turns_within, levels_within, level_bounded}
+use Rattle.ceu_marked.proofs.Runs.{steps_turns, steps_levels}
 use Rattle.ceu_standing.specs.Laws.{Stands}
 use Rattle.ceu_standing.proofs.Within.{input_within, time_within, async_within}
 use Rattle.ceu_reactions.specs.Steady.{IsSteady}
 use Rattle.ceu_reactions.specs.Bounded.{IsBounded}
-use Rattle.ceu_reactions.proofs.Settling.{booted_steady, input_steady, later_steady, time_steady, served_steady}
-use Rattle.ceu_reactions.proofs.Paying.{codes_stay, next_steady, step_pays}
+use Rattle.ceu_reactions.proofs.Settling.{booted_steady, next_steady, input_steady, later_steady, time_steady, served_steady}
+use Rattle.ceu_reactions.proofs.Paying.{codes_stay, step_pays}
 use Rattle.ceu_reactions.proofs.Ending.{reactions_end}
 
 second_most : (a b : Cost) → Within b (most a b)
@@ -38,15 +37,14 @@ unfolding bounds
 stay_within K =
     second_most (plus (cost 1 0) (enter_block (passes_from [] K.codes) (emitting K) (entering K) K.body)) (stay_block (passes_from [] K.codes) (emitting K) (entering K) (staying K) K.body)
 
-module _ (K : Kernel) (proper : is_proper K ≡ true) (keeps : KeepsLoopRules K)
-    (marked : (k : ℕ) (c : Config) → resumes (world_of (steps K k c)).marks ≡ resumes (world_of c).marks + turns_begun K k c) where
+module _ (K : Kernel) (proper : is_proper K ≡ true) (keeps : KeepsLoopRules K) where
   bounded : (r : Residual) (w : World) → IsSteady K (Between 0 r w) → Within (due_in K r) (bounds K) → IsBounded K (Between 0 r w)
   bounded r w h l =
       let l0 = l.turns in
       let l1 = l.opens in
-      let levels = λ (k : ℕ). levels_within K (IsSteady K) (next_steady K proper keeps) (step_pays K proper keeps) k (Between 0 r w) h in record {
-        turns = λ k. (let m = marked k (Between 0 r w) in let t = turns_within K (IsSteady K) (next_steady K proper keeps) (step_pays K proper keeps) k (Between 0 r w) h in omega (arith, m, t, l0));
-        opens = λ k. (let t = levels k in omega (arith, t, l1));
+      let levels = λ (k : ℕ). levels_within K (IsSteady K) (next_steady K proper) (step_pays K proper keeps) k (Between 0 r w) h in record {
+        turns = λ k. (let m = steps_turns K k (Between 0 r w) in let t = turns_within K (IsSteady K) (next_steady K proper) (step_pays K proper keeps) k (Between 0 r w) h in omega (arith, m, t, l0));
+        opens = λ u k. (let m = steps_levels K k (Between 0 r w) u in let t = levels k in omega (arith, m, t, l1));
         level = λ k. (let t = levels k in let b = level_bounded K k (Between 0 r w) in omega (arith, t, b, l1));
         ends = reactions_end K proper keeps 0 r w h;
       }

@@ -10,9 +10,10 @@ use Rattle.ceu_costs.specs.Due.{due_in}
 use Rattle.ceu_costs.proofs.Runs.{turns_within}
 use Rattle.ceu_turns.proofs.Reactions.{reaction_ends}
 use Rattle.ceu_reactions.specs.Steady.{IsSteady}
-use Rattle.ceu_reactions.proofs.Paying.{rules, codes_leave, next_steady, step_pays}
+use Rattle.ceu_reactions.proofs.Settling.{next_steady}
+use Rattle.ceu_reactions.proofs.Paying.{rules, codes_leave, step_pays}
 
 pub reactions_end : (K : Kernel) → is_proper K ≡ true → KeepsLoopRules K → (n : ℕ) (r : Residual) (w : World) → IsSteady K (Between n r w) → (count : ℕ) × (is_reacting (steps K count (Between n r w)) ≡ false)
 reactions_end K proper keeps n r w h =
     reaction_ends K (rules K proper keeps) (codes_leave K proper keeps) (due_in K r).turns n r w h.fits h.counted
-    (λ k. turns_within K (IsSteady K) (next_steady K proper keeps) (step_pays K proper keeps) k (Between n r w) h)
+    (λ k. turns_within K (IsSteady K) (next_steady K proper) (step_pays K proper keeps) k (Between n r w) h)

@@ -1,5 +1,5 @@
 -- The tables of a program that breaks no rule on loops pay for each step of it.
-use Rattle.std.proofs.Common.{◌≡◌, refl, sym, ap, ◌∙◌, subst, ◌≤◌, ◌<◌, ℕ, zero, suc, ◌+◌, ◌-◌, pos, Bool, true, false, List, [], ◌∷◌, length, Option, Some, None, arith}
+use Rattle.std.proofs.Common.{◌≡◌, refl, sym, ap, subst, ◌<◌, ℕ, zero, suc, ◌+◌, pos, Bool, true, List, [], ◌∷◌, length, Option, Some, None, arith}
 use Rattle.std.proofs.lemmas.Bool.{and_parts, false≢true}
 use Rattle.ceu_base.specs.declared.kinds.Ty.{Ty}
 use Rattle.ceu_tree.specs.declared.kernel.Kernel.{Kernel}
@@ -13,20 +13,18 @@ use Rattle.ceu_tree.specs.Residual.{Program, Act, Start, Finish, Over, Run}
 use Rattle.ceu_tree.specs.Focus.{Focus, plug, leaf}
 use Rattle.ceu_tree.specs.World.{World}
 use Rattle.ceu_tree.specs.Leaf.{Layer, code_at}
-use Rattle.ceu_tree.specs.Paths.{end_if, flag, passes, quick_block, passes_from}
-use Rattle.ceu_tree.specs.Costs.{Cost, cost, plus, cost_at, woken_block, woken_codes, instances_from}
+use Rattle.ceu_tree.specs.Paths.{end_if, flag, quick_block, passes_from}
+use Rattle.ceu_tree.specs.Costs.{cost, plus, cost_at}
 use Rattle.ceu_tree.specs.Step.{event_code, stepped}
 use Rattle.ceu_tree.specs.Proper.{Scope, is_trail, event_at, event_seen, on_ty, gives_if, stmt_ok, is_proper}
-use Rattle.ceu_tree.specs.Run.{Config, Turning, Between, next}
+use Rattle.ceu_tree.specs.Run.{Turning}
 use Rattle.ceu_legal.specs.Shape.{Part, AStatement, program_part, pauses, Around, ActFits, starts, TurnFits}
 use Rattle.ceu_legal.proofs.Static.{names_of}
 use Rattle.ceu_legal.proofs.StepFits.{around_sound}
-use Rattle.ceu_legal.proofs.RunFits.{root_sound, next_fits}
+use Rattle.ceu_legal.proofs.RunFits.{root_sound}
 use Rattle.ceu_bound.specs.Filled.{emitting, entering, staying}
 use Rattle.ceu_bound.specs.PhaseB.{KeepsLoopRules}
 use Rattle.ceu_living.specs.Instances.{pools_stand}
-use Rattle.ceu_living.proofs.Runs as living
-use Rattle.ceu_endings.proofs.CountedRuns.{next_kept}
 use Rattle.ceu_costs.specs.Ways.{out_of}
 use Rattle.ceu_costs.specs.Pays.{Within, Fewer}
 use Rattle.ceu_costs.specs.Kept.{RulesKept, CodesPay, CodesStay}
@@ -43,7 +41,6 @@ use Rattle.ceu_tables.proofs.Settled.{emissions_settle}
 use Rattle.ceu_copies.proofs.Reach.{reaches}
 use Rattle.ceu_kept.proofs.Bodies.{rules_kept, code_leaves}
 use Rattle.ceu_reaches.proofs.Bodies.{woken_costs, emitted_fits}
-use Rattle.ceu_standing.proofs.BareRuns.{next_bare}
 use Rattle.ceu_reactions.specs.Steady.{IsSteady}
 use denote.Hole.Carrier
 
@@ -104,9 +101,6 @@ module _ (K : Kernel) (proper : is_proper K ≡ true) (keeps : KeepsLoopRules K)
       (emitted_fits K n t.part (leaf f) s (pos 0) t.acts l (ap pauses q))
 
   -- ---- so each step of a steady configuration pays
-
-  pub next_steady : (c : Config) → IsSteady K c → IsSteady K (next K c)
-  next_steady c h = record { fits = next_fits K proper c h.fits; counted = next_kept K c h.counted; instances = living.next_stands K proper c h.fits h.instances; bare = next_bare K proper c h.fits h.bare }
 
   pub step_pays : (n : ℕ) (f : Focus Act) (w : World) → IsSteady K (Turning n f w) → Paid K n (plug f (Run n (leaf f))) (stepped K n Program f w).outcome
   step_pays n f w h =

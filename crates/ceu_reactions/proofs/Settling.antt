@@ -13,29 +13,28 @@ use Rattle.ceu_tree.specs.Focus.{Focus, plug, leaf, body_of, choose}
 use Rattle.ceu_tree.specs.World.{World, empty_world}
 use Rattle.ceu_tree.specs.Wake.{each_leaf, leaves, runs_at, by_input, later, by_time, least_time, Unserved, unserved, new_round}
 use Rattle.ceu_tree.specs.Proper.{Scope, is_proper}
-use Rattle.ceu_tree.specs.Run.{Config, Turning, Between, Waiting, Ended, Faulted, is_reacting, steps, booted, reacts, input, advance, faulted, Served, Unfinished, Turned, Done, Failed, serve, serve_first, after_serving, served, idle_turn, idle_turns, done, all_done, run}
+use Rattle.ceu_tree.specs.Run.{Config, Turning, Between, Waiting, Ended, Faulted, is_reacting, next, steps, booted, reacts, input, advance, faulted, Served, Unfinished, Turned, Done, Failed, serve, serve_first, after_serving, served, idle_turn, idle_turns, done, all_done, run}
 use Rattle.ceu_laws.proofs.StepLaws.{steps_stand}
 use Rattle.ceu_laws.proofs.FocusBalance.{FoundIn, choose_found}
-use Rattle.ceu_legal.specs.Shape.{Part, ABlock, AStatement, program_part, async_scope, pauses, Fits, to_finish, Around, TurnFits, ConfigFits}
+use Rattle.ceu_legal.specs.Shape.{ABlock, AStatement, program_part, async_scope, pauses, Fits, to_finish, Around}
 use Rattle.ceu_legal.proofs.Fits.{around_raised, plug_fits}
 use Rattle.ceu_legal.proofs.Leaves.{leaves_fit, by_input_fits, by_time_fits, later_fits, round_fits}
 use Rattle.ceu_legal.proofs.Choice.{ChoiceFits, choice_fits}
 use Rattle.ceu_legal.proofs.UpFits.{Sound, layer_of}
 use Rattle.ceu_legal.proofs.StepFits.{around_sound}
-use Rattle.ceu_legal.proofs.RunFits.{root_sound, turn_of_chosen, steps_fit, booted_fits, async_leaf, idle_turn_fits, done_fits}
-use Rattle.ceu_living.specs.Instances.{InstancesStand}
+use Rattle.ceu_legal.proofs.RunFits.{root_sound, next_fits, steps_fit, booted_fits, async_leaf, done_fits}
 use Rattle.ceu_living.proofs.Living.{lives}
 use Rattle.ceu_living.proofs.Trees.{live_focus, plug_lives}
 use Rattle.ceu_living.proofs.Reactions.{ConfigCounts, counts_same, found_stands, instances_counted, instances_stand}
 use Rattle.ceu_living.proofs.Commands.{AsyncPart, ServedCounts, by_input_calm, by_time_calm, later_calm, round_calm, leaves_counts, first_counts, unserved_lives, unserved_stands, after_counts}
 use Rattle.ceu_living.proofs.Runs as living
-use Rattle.ceu_endings.specs.Counted.{tree_counted, Counted}
+use Rattle.ceu_endings.specs.Counted.{tree_counted}
 use Rattle.ceu_endings.proofs.CountedTrees.{plugged, unplugged, leaves_kept}
-use Rattle.ceu_endings.proofs.CountedRuns.{by_input_kept, by_time_kept, later_kept, round_kept, steps_kept, done_kept, booted_kept}
+use Rattle.ceu_endings.proofs.CountedRuns.{by_input_kept, by_time_kept, later_kept, round_kept, next_kept, steps_kept, done_kept, booted_kept}
 use Rattle.ceu_standing.specs.Standing.{pools_bare}
 use Rattle.ceu_standing.proofs.BareTrees as bare
 use Rattle.ceu_standing.proofs.Within.{bare_input, bare_time, bare_later}
-use Rattle.ceu_standing.proofs.BareRuns.{bare_round, booted_bare, steps_bare, done_bare}
+use Rattle.ceu_standing.proofs.BareRuns.{bare_round, booted_bare, next_bare, steps_bare, done_bare}
 use Rattle.ceu_turns.specs.Laws.{is_finished}
 use Rattle.ceu_reactions.specs.Steady.{IsSteady}
 use Rattle.ceu_reactions.proofs.Serving.{serve_stays}
@@ -71,6 +70,9 @@ module _ (K : Kernel) (proper : is_proper K ≡ true) where
 
   pub booted_steady : IsSteady K (booted K)
   booted_steady = record { fits = booted_fits K proper; counted = booted_kept K; instances = living.boot_stands K; bare = booted_bare K }
+
+  pub next_steady : (c : Config) → IsSteady K c → IsSteady K (next K c)
+  next_steady c h = record { fits = next_fits K proper c h.fits; counted = next_kept K c h.counted; instances = living.next_stands K proper c h.fits h.instances; bare = next_bare K proper c h.fits h.bare }
 
   pub steps_steady : (n : ℕ) (c : Config) → IsSteady K c → IsSteady K (steps K n c)
   steps_steady n c h = record { fits = steps_fit K proper n c h.fits; counted = steps_kept K n c h.counted; instances = living.steps_stand K proper n c h.fits h.instances; bare = steps_bare K proper n c h.fits h.bare }
@@ -145,11 +147,12 @@ module _ (K : Kernel) (proper : is_proper K ≡ true) where
           let counts = instances_counted K proper (Waiting r w) h.fits h.instances in
           let f = found_stands unserved r g found counts.1 in
           let s = first_counts K proper (λ q. live_focus q g) b (body_of g Program) (choose Act (runs_at 0) (leaf g).inner) (leaf g).inner w _ p (choice_fits K 1 Act (runs_at 0) l.fits) (choose_found Act (runs_at 0) (leaf g).inner)
-              (counts_same (λ q. lives q r) (λ q. lives q (leaf g).inner + live_focus q g) w w (record { living = refl; given = refl })
-              (λ q. (let x = plug_lives q g found.was in let y = unserved_lives K proper q found.was (leaf g) found.picked in let z = ap (lives q) found.plugs in omega (arith, x, y, z))) counts.0)
-              (unserved_stands K proper found.was (leaf g) found.picked f.1) in
-          (plug_fits K (around_raised K {t = 0} {u = 1} (omega arith) a) (to_finish (omega arith) (ap pauses l.layer)),
-          after_counts K proper 0 g (Done u) r w l.scope l.block a l.layer f.0 counts (subst (ServedCounts K proper (λ q. live_focus q g)) q s))
+          (counts_same (λ q. lives q r) (λ q. lives q (leaf g).inner + live_focus q g) w w (record { living = refl; given = refl })
+          (λ q. (let x = plug_lives q g found.was in let y = unserved_lives K proper q found.was (leaf g) found.picked in let z = ap (lives q) found.plugs in omega (arith, x, y, z))) counts.0)
+          (unserved_stands K proper found.was (leaf g) found.picked f.1) in (
+            plug_fits K (around_raised K {t = 0} {u = 1} (omega arith) a) (to_finish (omega arith) (ap pauses l.layer)),
+            after_counts K proper 0 g (Done u) r w l.scope l.block a l.layer f.0 counts (subst (ServedCounts K proper (λ q. live_focus q g)) q s),
+          )
 
   -- ---- where each reaction ends, and each turn of an async
 
@@ -218,7 +221,7 @@ module _ (K : Kernel) (proper : is_proper K ≡ true) where
         let t = after_settles g r w (serving s.bound) s.whole (λ u q. served_steady s.bound g r w u h e q) in
         let b = s.bound + t.bound in
         let at : (n : ℕ) → b ≤ n → after_serving K n g (serving n) r w ≡ after_serving K t.bound g (serving s.bound) r w =
-            λ n m. ap (λ x. after_serving K n g x r w) (s.is n (omega (arith, m))) ∙ t.is n (omega (arith, m)) in
+        λ n m. ap (λ x. after_serving K n g x r w) (s.is n (omega (arith, m))) ∙ t.is n (omega (arith, m)) in
         record { bound = b; is = λ n m. at n m ∙ sym (at b (omega arith)); over = ap is_reacting (at b (omega arith)) ∙ t.over }
 
     idle_settles : (c : Config) → IsSteady K c → is_reacting c ≡ false → Settles (λ n. idle_turn K n c)
