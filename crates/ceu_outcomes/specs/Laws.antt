@@ -7,7 +7,7 @@ use Rattle.ceu_tree.specs.Residual.{Program, Act, Finish, Residual, Run}
 use Rattle.ceu_tree.specs.Focus.{Focus, plug, leaf, body_of, choose}
 use Rattle.ceu_tree.specs.World.{World}
 use Rattle.ceu_tree.specs.Wake.{each_leaf, runs_at, by_input, later, by_time, Unserved, unserved}
-use Rattle.ceu_tree.specs.Run.{Between, Waiting, Done, serve_first, booted, run, Status, HasEnded, Runs}
+use Rattle.ceu_tree.specs.Run.{Between, Waiting, Done, serve_first, booted, run, Status, Runs}
 use Rattle.ceu_reactions.specs.Bounded.{IsBounded}
 use Rattle.ceu_compile.specs.Programs.{IsProgram}
 
