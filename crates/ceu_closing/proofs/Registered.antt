@@ -247,20 +247,27 @@ set_front x (q ∷ front) back h = go (or_cases (sets x q.stmt) (is_set front x)
     go (inl e) ih = or_left (sets x q.stmt) (is_set (front ++ back) x) e
     go (inr e) ih = or_right (sets x q.stmt) (is_set (front ++ back) x) (ih e)
 
+-- at each of those statements, those before it have set what they set
+abbrev pub SetBefore : KBlock → Body → World → (done : List KNode) → Type 0
+SetBefore b body w done = (front : List KNode) (q : KNode) (back : List KNode) → done ≡ front ++ q ∷ back → (x : ℕ) → declares x (out-KBlock b).decls ≡ true → is_set front x ≡ true → has body x w ≡ true
+
+pub set_before : (b : KBlock) (body : Body) (w : World) (done : List KNode) → ((x : ℕ) → declares x (out-KBlock b).decls ≡ true → is_set done x ≡ true → has body x w ≡ true) → SetBefore b body w done
+set_before b body w done need front q back e x d i = need x d (subst (λ l. is_set l x ≡ true) (sym e) (set_front x front (q ∷ back) i))
+
 module _ (K : Kernel) (proper : is_proper K ≡ true) (turn : Bool) (sc : Scope) (b : KBlock) (body : Body) (T : List (List ℕ)) (w : World) (ok : BlockOk K (names_of K) sc b) (ready : Ready K body w (ABlock turn sc b)) where
-  each_done : (done rest front back : List KNode) → (out-KBlock b).list ≡ done ++ rest → done ≡ front ++ back → ((x : ℕ) → declares x (out-KBlock b).decls ≡ true → is_set done x ≡ true → has body x w ≡ true)
+  each_done : (done rest front back : List KNode) → (out-KBlock b).list ≡ done ++ rest → done ≡ front ++ back → SetBefore b body w done
       → OuterHas K sc body T w (λ x. count_of x (block_names false T b)) → Each K proper (block_scope sc b) body T w back
   each_done done rest front [] e f need out = tt
   each_done done rest front (q ∷ back) e f need out =
       let at : (out-KBlock b).list ≡ front ++ q ∷ (back ++ rest) = e ∙ (ap (λ l. l ++ rest) f ∙ append_assoc front (q ∷ back) rest) in
       (record {
         ok = list_sound K proper sc b front q (back ++ rest) ok at;
-        ready = ready_list K body w turn sc b front q (back ++ rest) ok at (λ x d i. need x d (subst (λ l. is_set l x ≡ true) (sym f) (set_front x front (q ∷ back) i))) ready;
+        ready = ready_list K body w turn sc b front q (back ++ rest) ok at (need front q back f) ready;
         outer = λ x v c l. out x v c (let z = in_block false T x b front q (back ++ rest) at in omega (arith, z, l));
       }, each_done done rest (front ++ q ∷ []) back e (f ∙ sym (append_assoc front (q ∷ []) back)) need out)
 
   -- those of the statements of a block that are done, each of which has set what it sets
-  pub registered_reads : (done rest : List KNode) → (out-KBlock b).list ≡ done ++ rest → ((x : ℕ) → declares x (out-KBlock b).decls ≡ true → is_set done x ≡ true → has body x w ≡ true)
+  pub registered_reads : (done rest : List KNode) → (out-KBlock b).list ≡ done ++ rest → SetBefore b body w done
       → OuterHas K sc body T w (λ x. count_of x (block_names false T b)) → finalized_reads (finalizers_of [] done) body w
   registered_reads done rest e need out =
       finalized_fine K proper (block_scope sc b) body T (finalizers_of [] done) w (found_each K proper (block_scope sc b) body T w [] done tt (each_done done rest [] done e refl need out))

@@ -41,7 +41,7 @@ use Rattle.ceu_ready.proofs.Places.{left_of, code_room, declared_held, known_cod
 use Rattle.ceu_ready.proofs.Settled.{asked_yes, unneeded, each_unneeded, all_unneeded}
 use Rattle.ceu_ready.proofs.Aborts.{body_spared, aborted_spared, each_spared, all_spared}
 use Rattle.ceu_closing.specs.Closing.{aborted_reads, branches_read, instances_read, finalized_reads, closed_reads}
-use Rattle.ceu_closing.proofs.Registered.{registered_reads}
+use Rattle.ceu_closing.proofs.Registered.{SetBefore, set_before, registered_reads}
 use Rattle.ceu_closing.proofs.Envs.{Variable, IsSet, SeatSet, named, Named, code_of, NamedInCode, named_list, named_part, named_turn, named_async, named_call, held, Low, Env, Keeps, low_kept, low_more, env_kept, env_list, env_part, env_turn, env_async, env_code, EachReady, EachNamed, Envs, each_ready, each_named, envs_kept}
 use denote.Hole.Carrier
 
@@ -74,10 +74,10 @@ module _ (K : Kernel) (proper : is_proper K ≡ true) (root : Residual) where
   with_decls here c o b x = o b x + slots_grip K.codes b x here (out-KBlock c).decls
 
   pub closed_fine : (turn : Bool) (sc : Scope) (c : KBlock) (fin : List KNode) (all : Instances) (done rest : List KNode) (here : Body) (o p : Body → ℕ → ℕ) (w : World) → (out-KBlock c).list ≡ done ++ rest → fin ≡ finalizers_of [] done
-      → BlockOk K (names_of K) sc c → NamedInCode K proper root (ABlock turn sc c) → Env K proper root (ABlock turn sc c) here o w → ((x : ℕ) → declares x (out-KBlock c).decls ≡ true → is_set done x ≡ true → has here x w ≡ true)
+      → BlockOk K (names_of K) sc c → NamedInCode K proper root (ABlock turn sc c) → Env K proper root (ABlock turn sc c) here o w → SetBefore c here w done
       → Most (with_decls here c o) p → Spares p w (instances_aborted all w) → instances_read all w → closed_reads fin all here w
   closed_fine turn sc c fin all done rest here o p w e f ok code v need most spares reads =
-      (reads, subst (λ l. finalized_reads l here u) (sym f) (registered_reads K proper turn sc c here (table K sc.code) u ok after.ready done rest e (λ x d i. keep here x (declared_held K proper here x here (out-KBlock c).decls (o here x) ((v.known here x).room) (same_self here) d) (need x d i)) (λ x q z m. (after.low x q (code z x q m)).1)))
+      (reads, subst (λ l. finalized_reads l here u) (sym f) (registered_reads K proper turn sc c here (table K sc.code) u ok after.ready done rest e (λ front q back g x d i. keep here x (declared_held K proper here x here (out-KBlock c).decls (o here x) ((v.known here x).room) (same_self here) d) (need front q back g x d i)) (λ x q z m. (after.low x q (code z x q m)).1)))
     where
       u : World
       u = instances_aborted all w
@@ -91,12 +91,12 @@ module _ (K : Kernel) (proper : is_proper K ≡ true) (root : Residual) where
   -- ---- a block that is aborted
 
   pub block_fine : (turn : Bool) (sc : Scope) (c : KBlock) (fin : List KNode) (all : Instances) (done rest : List KNode) (q : Residual) (here : Body) (o p m : Body → ℕ → ℕ) (w : World) → (out-KBlock c).list ≡ done ++ rest → fin ≡ finalizers_of [] done
-      → BlockOk K (names_of K) sc c → NamedInCode K proper root (ABlock turn sc c) → Env K proper root (ABlock turn sc c) here o w → ((x : ℕ) → declares x (out-KBlock c).decls ≡ true → is_set done x ≡ true → has here x w ≡ true)
+      → BlockOk K (names_of K) sc c → NamedInCode K proper root (ABlock turn sc c) → Env K proper root (ABlock turn sc c) here o w → SetBefore c here w done
       → Most (with_decls here c o) (λ b x. m b x + p b x) → aborted_reads q here w → Spares m w (aborted q here w) → Spares p (aborted q here w) (instances_aborted all (aborted q here w)) → instances_read all (aborted q here w)
       → aborted_reads q here w × closed_reads fin all here (aborted q here w)
   block_fine turn sc c fin all done rest q here o p m w e f ok code v need most inside spares others reads =
       (inside, closed_fine turn sc c fin all done rest here o p u e f ok code (env_kept K proper root (ABlock turn sc c) here o w u keep v)
-          (λ x d i. keep here x (declared_held K proper here x here (out-KBlock c).decls (o here x) ((v.known here x).room) (same_self here) d) (need x d i))
+          (λ front q back g x d i. keep here x (declared_held K proper here x here (out-KBlock c).decls (o here x) ((v.known here x).room) (same_self here) d) (need front q back g x d i))
           (λ b x. (let a = most b x in omega (arith, a))) others reads)
     where
       u : World
@@ -145,12 +145,12 @@ module _ (K : Kernel) (proper : is_proper K ≡ true) (root : Residual) where
   code_trail sc n (kernel.Spawn d es p a) c h e = left_of (is_trail sc.place) _ (left_of _ (is_pool_of d (find p sc.seen)) (left_of _ (elim a [ None ↦ true | Some y ↦ alias_takes d p (find y sc.seen) ]) h))
   code_trail sc n st c h e = absurd (cc)
 
-  nil_end : (bs : List KBlock) → bs ≡ bs ++ []
+  pub nil_end : (bs : List KBlock) → bs ≡ bs ++ []
   nil_end [] = refl
   nil_end (c ∷ cs) = ap (λ l. c ∷ l) (nil_end cs)
 
   -- those that are needed, where what needs them is held by nothing that is aborted before
-  still_has : (need grips p : Body → ℕ → ℕ) (w u : World) → ((b : Body) (x : ℕ) → grips b x ≤ 2 → need b x ≡ 0) → ((b : Body) (x : ℕ) → grips b x + p b x ≤ 3) → Spares p w u → Has need w → Has need u
+  pub still_has : (need grips p : Body → ℕ → ℕ) (w u : World) → ((b : Body) (x : ℕ) → grips b x ≤ 2 → need b x ≡ 0) → ((b : Body) (x : ℕ) → grips b x + p b x ≤ 3) → Spares p w u → Has need w → Has need u
   still_has need grips p w u un most spares h b x l = go (cases_lt 2 (grips b x))
     where
       go : (2 < grips b x) ⊎ (grips b x ≤ 2) → has b x u ≡ true
@@ -173,7 +173,7 @@ module _ (K : Kernel) (proper : is_proper K ≡ true) (root : Residual) where
         let inside = tree_fine more (list_sound K proper sc c done s rest ok e) here p w (named_list K proper root turn sc c done s rest e n) env (λ b x. (let a = m b x in omega (arith, a))) (λ b x l. h b x (omega (arith, l))) (λ z. (st z).1) in
         let others = all_fine fit p w1 here (low_kept K proper root p w w1 (λ b x l k. spares b x (let a = m b x in omega (arith, a, l)) k) env.low) (λ b x. (let a = m b x in omega (arith, a)))
             (still_has (λ b x. needed_all K.codes b x all) (λ b x. grip_all K.codes b x all) (λ b x. grip K.codes b x here r) w w1 (λ b x l. all_unneeded K proper b x fit l) (λ b x. (let a = m b x in omega (arith, a))) spares (λ b x l. h b x (omega (arith, l)))) (λ z. (st z).0) in
-        let z = block_fine turn sc c fin all done (s ∷ rest) r here o (λ b x. grip_all K.codes b x all) (λ b x. grip K.codes b x here r) w e f ok (λ q. n) v need (λ b x. (let a = m b x in omega (arith, a))) inside spares (λ b x l k. all_spared K.codes b x all w1 l k) others in
+        let z = block_fine turn sc c fin all done (s ∷ rest) r here o (λ b x. grip_all K.codes b x all) (λ b x. grip K.codes b x here r) w e f ok (λ q. n) v (set_before c here w done need) (λ b x. (let a = m b x in omega (arith, a))) inside spares (λ b x l k. all_spared K.codes b x all w1 l k) others in
         (z.0, z.1.0, z.1.1)
     tree_fine (to_finish l p) ok here o w n v m h st = tt
     tree_fine (at_input p e) ok here o w n v m h st = tt
@@ -227,7 +227,7 @@ module _ (K : Kernel) (proper : is_proper K ≡ true) (root : Residual) where
         let w1 = instances_aborted more w in
         let spares : Spares (λ b x. grip_all K.codes b x more) w w1 = λ b x l j. all_spared K.codes b x more w l j in
         let h1 = still_has (λ b x. given_needed K.codes b x to code + needed K.codes b x to r) (λ b x. point b x to + given_grip K.codes b x to code + grip K.codes b x to r) (λ b x. grip_all K.codes b x more) w w1
-            (λ b x l. (let a = all_unneeded K proper b x (one_lives {seat = seat} k p e fit none_lives) (omega (arith, l)) in omega (arith, a))) (λ b x. (let a = m b x in omega (arith, a))) spares (λ b x l. h b x (omega (arith, l))) in
+            (λ b x l. (let a = all_unneeded K proper b x (one_lives {sc = sc} {seat = seat} k p e fit none_lives) (omega (arith, l)) in omega (arith, a))) (λ b x. (let a = m b x in omega (arith, a))) spares (λ b x l. h b x (omega (arith, l))) in
         (all_fine rest o w here low (λ b x. (let a = m b x in omega (arith, a))) (λ b x l. h b x (omega (arith, l))) (λ z. (st z).2),
             tree_fine fit (code_static K seat.code k proper e) to (with_code to code o) w1 (code_named seat.code k e (st p).0)
             (code_env seat.code k to code o w1 e e (low_kept K proper root o w w1 (λ b x l j. spares b x (let a = m b x in omega (arith, a, l)) j) low) (λ b x l. h1 b x (omega (arith, l))))
