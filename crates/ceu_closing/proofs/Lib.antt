@@ -5,3 +5,7 @@ pub mod Frames
 pub mod Within
 pub mod Fates
 pub mod Up
+pub mod Kills
+pub mod Whole
+pub mod Steps
+pub mod Runs

@@ -46,11 +46,11 @@ module _ (K : Kernel) (proper : is_proper K ≡ true) (root : Residual) where
   abbrev pub Grips : Frame → Focus Act → Body → Body → ℕ → ℕ
   Grips fr f here b x = frame_grip K.codes b x here fr + focus_grip K.codes b x (body_in fr here) f
 
-  needs_inner : (fr : Frame) (f : Focus Act) (here : Body) (w : World) → Has K proper root (λ b x. focus_needed K.codes b x is_first here (In fr f)) w → Needs fr f here w
+  pub needs_inner : (fr : Frame) (f : Focus Act) (here : Body) (w : World) → Has K proper root (λ b x. focus_needed K.codes b x is_first here (In fr f)) w → Needs fr f here w
   unfolding focus_needed
   needs_inner fr f here w h = (λ b x m. h b x (omega (arith, m)), λ b x m. h b x (omega (arith, m)))
 
-  grips_inner : (fr gr : Frame) (f : Focus Act) (here : Body) (o : Body → ℕ → ℕ) → Most K proper root o (Grips fr (In gr f) here) → Most K proper root (inner_hold K proper root fr here o) (Grips gr f (body_in fr here))
+  pub grips_inner : (fr gr : Frame) (f : Focus Act) (here : Body) (o : Body → ℕ → ℕ) → Most K proper root o (Grips fr (In gr f) here) → Most K proper root (inner_hold K proper root fr here o) (Grips gr f (body_in fr here))
   unfolding focus_grip
   grips_inner fr gr f here o m b x = let a = m b x in let l = hold_less K proper root fr here o b x in omega (arith, a, l)
 

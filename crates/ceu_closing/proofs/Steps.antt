@@ -1,0 +1,191 @@
+-- What a step of a turn closes, aborts and kills reads no variable without a value, nor does the abortion of what is left after a fault.
+use Rattle.std.proofs.Common.{◌≡◌, refl, sym, ap, ◌∙◌, subst, ◌≤◌, ◌<◌, ℕ, zero, suc, ◌+◌, ℤ, pos, Bool, true, false, if◌then◌else◌, ◌==◌, ◌⊎◌, inl, inr, List, ◌∷◌, Option, Some, None, arith}
+use Rattle.std.proofs.lemmas.Bool.{cases_lt}
+use Rattle.ceu_base.specs.declared.kinds.Pos.{Pos}
+use Rattle.ceu_base.specs.declared.kinds.Fault.{Fault}
+use Rattle.ceu_base.specs.declared.kinds.Fault.TheVariants.{SpawnCount}
+use Rattle.ceu_base.specs.declared.kinds.Mark.TheVariants as mark
+use Rattle.ceu_tree.specs.declared.command.Command.{Command}
+use Rattle.ceu_tree.specs.declared.kernel.Kernel.{Kernel}
+use Rattle.ceu_tree.specs.declared.kernel.KCode.{KCode}
+use Rattle.ceu_tree.specs.declared.kernel.KNode.{KNode}
+use Rattle.ceu_tree.specs.Residual.{Body, Program, Spawned as InstanceBody, Act, Begin, Finish, Residual, Over, Run}
+use Rattle.ceu_tree.specs.Focus.{Focus, Here, In, plug, leaf, body_of}
+use Rattle.ceu_tree.specs.World.{World, NotSet, Names, marked, set_alias, set_parameters}
+use Rattle.ceu_tree.specs.Leaf as does
+use Rattle.ceu_tree.specs.Leaf.{Does, acted}
+use Rattle.ceu_tree.specs.Around.{Outcome, Rests, Raises, Goes, Fails, Past, Registers, AtBlockEnd, AtLoopHead, Leaves, Moved, moved, answered}
+use Rattle.ceu_tree.specs.Step.{free_place, seated, spawned_at, unseat, killed, does_in, stepped}
+use Rattle.ceu_tree.specs.Proper.{is_proper}
+use Rattle.ceu_tree.specs.Run.{Config, Turning, Between, Waiting, booted, steps, done, run}
+use Rattle.ceu_legal.specs.Shape.{Part, program_part, Fits, Around, TurnFits, ConfigFits}
+use Rattle.ceu_legal.proofs.StepFits.{around_sound, unseated_around}
+use Rattle.ceu_legal.proofs.RunFits.{root_sound, steps_fit, booted_fits, done_fits, run_fits}
+use Rattle.ceu_values.specs.Ground.{has}
+use Rattle.ceu_values.proofs.Grounds.{program_ground}
+use Rattle.ceu_held.proofs.Seats.{focus_seats, unplug_seats, unseat_seats}
+use Rattle.ceu_held.proofs.Agree.{listed}
+use Rattle.ceu_living.specs.Instances.{TreeStands, InstancesStand}
+use Rattle.ceu_living.proofs.Living.{lives}
+use Rattle.ceu_living.proofs.Lists.{Counts}
+use Rattle.ceu_living.proofs.Trees.{live_focus}
+use Rattle.ceu_living.proofs.Reactions.{instances_counted}
+use Rattle.ceu_counters.specs.Counters.{is_first}
+use Rattle.ceu_counters.proofs.Grips.{point}
+use Rattle.ceu_counters.proofs.Reactions.{program_most}
+use Rattle.ceu_ready.specs.Needed.{act_needed, needed, focus_needed, Stocked}
+use Rattle.ceu_ready.specs.Outer.{OuterSet, OuterStands}
+use Rattle.ceu_ready.proofs.Grips.{grip, focus_grip, unseat_less}
+use Rattle.ceu_ready.proofs.Trees.{unseat_needed}
+use Rattle.ceu_ready.proofs.Places.{known_program, root_ground, around_known}
+use Rattle.ceu_ready.proofs.Bounds.{grip_within, around_within}
+use Rattle.ceu_ready.proofs.Settled.{focus_unneeded}
+use Rattle.ceu_ready.proofs.Aborts.{killed_spared}
+use Rattle.ceu_ready.proofs.Leaf.{alias_keeps, acted_fine}
+use Rattle.ceu_closing.specs.Closing.{aborted_reads, up_reads, killed_reads, spawned_reads, does_reads, step_reads}
+use Rattle.ceu_closing.specs.Laws.{Closes}
+use Rattle.ceu_closing.proofs.Envs.{SeatSet}
+use Rattle.ceu_closing.proofs.Trees.{Most, Has}
+use Rattle.ceu_closing.proofs.Fates.{Fate, answered_fate}
+use Rattle.ceu_closing.proofs.Whole.{around, SameDone, root_abort, root_up, root_kill, tree_abort, same_plugged, same_unseated}
+
+module _ (K : Kernel) (proper : is_proper K ≡ true) where
+  -- ---- an abortion of the program
+
+  tree_most : (r : Residual) (w : World) (t : ℕ) → Fits K t (program_part K) r → Counts (λ p. lives p r) w → (b : Body) (x : ℕ) → point b x Program + grip K.codes b x Program r ≤ 3
+  tree_most r w t fit h b x = let a = grip_within K proper b x fit Program (root_ground K) (program_ground K proper) in let c = program_most b x (λ p. lives p r) w (root_ground K) h in omega (arith, a, c)
+
+  counted : (t : ℕ) (r : Residual) (w : World) → Fits K t (program_part K) r → TreeStands r w → Counts (λ p. lives p r) w
+  counted zero r w fit h = (instances_counted K proper (Waiting r w) fit h).0
+  counted (suc n) r w fit h = (instances_counted K proper (Between n r w) fit h).0
+
+  pub abort_reads : (t : ℕ) (r : Residual) (w : World) → Fits K t (program_part K) r → TreeStands r w → ((b : Body) (x : ℕ) → 1 ≤ needed K.codes b x Program r → has b x w ≡ true) → OuterSet K r → aborted_reads r Program w
+  abort_reads t r w fit h own st = tree_abort K proper r fit refl w (tree_most r w t fit (counted t r w fit h)) own (listed _ r Program st)
+
+  -- ---- a step
+
+  turn_most : (n : ℕ) (f : Focus Act) (w : World) → TurnFits K (suc n) (program_part K) f → Counts (λ p. live_focus p f) w → (b : Body) (x : ℕ) → point b x Program + focus_grip K.codes b x Program f ≤ 3
+  turn_most n f w t h b x =
+      let j = around_within K proper b x f (program_part K) t.part t.around Program (root_ground K) (program_ground K proper) in
+      let a = j.bound in
+      let c = program_most b x (λ p. live_focus p f) w (root_ground K) h in
+      omega (arith, a, c)
+
+  module _ (n : ℕ) (f : Focus Act) (t : TurnFits K (suc n) (program_part K) f) (most : (b : Body) (x : ℕ) → point b x Program + focus_grip K.codes b x Program f ≤ 3) (st : focus_seats (SeatSet K proper (plug f Over)) f Program) where
+    abbrev body : Body
+    body = body_of f Program
+
+    abbrev Own : World → Type 0
+    Own w = (b : Body) (x : ℕ) → 1 ≤ focus_needed K.codes b x is_first Program f → has b x w ≡ true
+
+    -- those that are needed, after a kill
+    unseat_own : (k : ℕ) (w : World) → Own w → (b : Body) (x : ℕ) → 1 ≤ focus_needed K.codes b x is_first Program (unseat k f) → has b x (killed k f w) ≡ true
+    unseat_own k w own b x h = after (cases_lt 2 (point b x Program + focus_grip K.codes b x Program (unseat k f)))
+      where
+        after : (2 < point b x Program + focus_grip K.codes b x Program (unseat k f)) ⊎ (point b x Program + focus_grip K.codes b x Program (unseat k f) ≤ 2) → has b x (killed k f w) ≡ true
+        after (inl y) = killed_spared K.codes b x k Program f w (let less = unseat_less K.codes b x k Program f in let l = most b x in omega (arith, less, l, y)) (own b x (let less = unseat_needed K.codes b x k Program f in omega (arith, less, h)))
+        after (inr y) =
+            absurd
+            (let z = focus_unneeded K proper b x is_first (unseat k f) (program_part K) t.part (unseated_around K proper (suc n) k t.around) (root_sound K proper) Program (root_ground K) (point b x Program) (program_ground K proper) (known_program K proper b x (point b x Program) (omega arith)) y in
+            omega (arith, z, h))
+
+    unseat_most : (k : ℕ) (b : Body) (x : ℕ) → point b x Program + focus_grip K.codes b x Program (unseat k f) ≤ 3
+    unseat_most k b x = let less = unseat_less K.codes b x k Program f in let l = most b x in omega (arith, less, l)
+
+    up_reads_of : (w : World) → Own w → (y : Outcome) → ((a : Act) → Fate (Here a) w y w) → up_reads Program f y w
+    up_reads_of w own y fate = root_up K proper (plug f Over) f t.around (same_plugged K proper f t.around) w most own st y fate
+
+    abort_of : (w : World) → Own w → aborted_reads (plug f Over) Program w
+    abort_of w own = root_abort K proper (plug f Over) f t.around (same_plugged K proper f t.around) w most own st
+
+    up_killed : (k : ℕ) (w : World) → Own w → up_reads Program (unseat k f) Past (killed k f w)
+    up_killed k w own =
+        root_up K proper (plug f Over) (unseat k f) (unseated_around K proper (suc n) k t.around) (same_unseated K proper k f t.around) (killed k f w) (unseat_most k) (unseat_own k w own) (unseat_seats (SeatSet K proper (plug f Over)) k f Program st) Past (λ a. tt)
+
+    abort_killed : (k : ℕ) (w : World) → Own w → aborted_reads (plug (unseat k f) Over) Program (killed k f w)
+    abort_killed k w own =
+        root_abort K proper (plug f Over) (unseat k f) (unseated_around K proper (suc n) k t.around) (same_unseated K proper k f t.around) (killed k f w) (unseat_most k) (unseat_own k w own) (unseat_seats (SeatSet K proper (plug f Over)) k f Program st)
+
+    empty : (alias : Option ℕ) → World → World
+    empty alias w = marked mark.Full (set_alias body alias NotSet w)
+
+    spawned_fine : (o : Option ℕ) (alias : Option ℕ) (w : World) → Own w → spawned_reads o Program body f alias w
+    spawned_fine None alias w own = up_reads_of (marked mark.Full (set_alias body alias NotSet w)) (λ b x l. alias_keeps b x body alias NotSet w (own b x l)) Past (λ a. tt)
+    spawned_fine (Some place) alias w own = tt
+
+    does_fine : (y : Does) (w : World) → Own w → does_reads Program body f y w
+    does_fine does.Passes w own = up_reads_of w own Past (λ a. tt)
+    does_fine (does.Leaves node z) w own = up_reads_of w own (Leaves node z) (λ a. refl)
+    does_fine (does.Registers s) w own = up_reads_of w own (Registers s) (λ a. tt)
+    does_fine does.Ends w own = up_reads_of w own AtBlockEnd (λ a. tt)
+    does_fine does.Heads w own = up_reads_of w own AtLoopHead (λ a. (refl, refl))
+    does_fine (does.Spawns s c code pool alias vs) w own = spawned_fine (free_place pool f) alias w own
+    does_fine (does.Kills k) w own = (root_kill K proper (plug f Over) f t.around (same_plugged K proper f t.around) w most own st k, up_killed k w own)
+    does_fine (does.Opens x) w own = tt
+    does_fine (does.Waits r) w own = tt
+    does_fine (does.Emits s event v) w own = tt
+    does_fine (does.Fails z) w own = tt
+
+    -- ---- a fault
+
+    abbrev Aborts : Moved → Type 0
+    Aborts m = (z : Fault × Pos) (r : Residual) → m.outcome ≡ Fails z r → aborted_reads r Program m.world
+
+    left_of_it : (z y : Fault × Pos) (q r : Residual) → ◌≡◌ {A = Outcome} (Fails y q) (Fails z r) → q ≡ r
+    left_of_it z y q r e = ap (λ o. elim o [ Fails i l ↦ l | _ ↦ q ]) e
+
+    answered_aborts : (g : Focus Act) (y : Outcome) (w : World) → ((a : Act) → Fate (Here a) w y w) → aborted_reads (plug g Over) Program w → Aborts (answered Program g y w)
+    answered_aborts g y w fate h z r e =
+        let m = answered Program g y w in
+        let k : Fate g w (Fails z r) m.world = subst (λ o. Fate g w o m.world) e (answered_fate Program g y w fate) in
+        subst (λ q. aborted_reads q Program m.world) (sym k.1) (subst (λ u. aborted_reads (plug g Over) Program u) (sym k.0) h)
+
+    fails_aborts : (y : Fault × Pos) (w : World) → Own w → Aborts (moved (Fails y (plug f Over)) w)
+    fails_aborts y w own z r e = subst (λ q. aborted_reads q Program w) (left_of_it z y (plug f Over) r e) (abort_of w own)
+
+    spawned_aborts : (s : KNode) (c : KCode) (code pool place : ℕ) (alias : Option ℕ) (vs : List ℤ) (w : World) → Own w → Aborts (spawned_at n body f s c code pool place alias vs w)
+    spawned_aborts s c code pool place alias vs w own = go (w.given == 4294967295)
+      where
+        number : ℕ
+        number = w.given + 1
+
+        go : (b : Bool)
+            → Aborts (if b then moved (Fails (SpawnCount, s.pos) (plug f Over)) w else moved (Raises (plug (seated (record { pool = pool; place = place; code = code; number = w.given + 1 }) (Run (n + 1) (Begin c.body)) f) (Run n (Finish s (pos 0))))) (marked (mark.Push (n + 1)) (marked (mark.Spawned (w.given + 1)) (set_parameters (InstanceBody (w.given + 1)) c.params vs (set_alias body alias (Names (w.given + 1)) (record w { given = w.given + 1; living = (w.given + 1) ∷ w.living }))))))
+        go true = fails_aborts (SpawnCount, s.pos) w own
+        go false z r e = absurd (cc)
+
+    does_aborts : (y : Does) (w : World) → Own w → Aborts (does_in K n Program body f y w)
+    does_aborts (does.Opens x) w own z r e = absurd (cc)
+    does_aborts (does.Waits q) w own z r e = absurd (cc)
+    does_aborts (does.Emits s event v) w own z r e = absurd (cc)
+    does_aborts does.Passes w own = answered_aborts f Past w (λ a. tt) (abort_of w own)
+    does_aborts (does.Leaves node x) w own = answered_aborts f (Leaves node x) w (λ a. refl) (abort_of w own)
+    does_aborts (does.Registers s) w own = answered_aborts f (Registers s) w (λ a. tt) (abort_of w own)
+    does_aborts does.Ends w own = answered_aborts f AtBlockEnd w (λ a. tt) (abort_of w own)
+    does_aborts does.Heads w own = answered_aborts f AtLoopHead w (λ a. (refl, refl)) (abort_of w own)
+    does_aborts (does.Spawns s c code pool alias vs) w own = go (free_place pool f)
+      where
+        go : (o : Option ℕ) → Aborts (elim o [
+          | None ↦ answered Program f Past (marked mark.Full (set_alias body alias NotSet w))
+          | Some place ↦ spawned_at n body f s c code pool place alias vs w
+        ])
+        go None = answered_aborts f Past (marked mark.Full (set_alias body alias NotSet w)) (λ a. tt) (abort_of (marked mark.Full (set_alias body alias NotSet w)) (λ b x l. alias_keeps b x body alias NotSet w (own b x l)))
+        go (Some place) = spawned_aborts s c code pool place alias vs w own
+    does_aborts (does.Kills k) w own = answered_aborts (unseat k f) Past (killed k f w) (λ a. tt) (abort_killed k w own)
+    does_aborts (does.Fails y) w own = fails_aborts y w own
+
+    -- what the leaf does keeps the values
+    acted_own : (w : World) → ((b : Body) (x : ℕ) → 1 ≤ focus_needed K.codes b x is_first Program f + act_needed K.codes b x body (leaf f) → has b x w ≡ true) → Own (acted K n body (leaf f) w).world
+    acted_own w own b x h =
+        let i = around_known K proper b x f (program_part K) t.part t.around Program (root_ground K) (point b x Program) (program_ground K proper) (known_program K proper b x (point b x Program) (omega arith)) in
+        let z = acted_fine K proper b x n body t.part i.ground (point b x Program + focus_grip K.codes b x Program f) (leaf f) w i.known (around_sound K proper t.around (root_sound K proper)) t.acts (λ u. own b x (omega (arith, u))) in
+        z.keeps (own b x (omega (arith, h)))
+
+    pub step_fine : (w : World) → Stocked K (Turning n f w) → Closes K n f w
+    unfolding step_reads stepped
+    step_fine w own =
+        let d = acted K n body (leaf f) w in
+        record { step = does_fine d.does d.world (acted_own w own); fault = does_aborts d.does d.world (acted_own w own) }
+
+  pub step_closes : (n : ℕ) (f : Focus Act) (w : World) → ConfigFits K (Turning n f w) → Counts (λ p. live_focus p f) w → Stocked K (Turning n f w) → OuterStands K (Turning n f w) → Closes K n f w
+  step_closes n f w t h own outer = step_fine n f t (turn_most n f w t h) (unplug_seats _ f Over Program (listed _ (plug f Over) Program outer)).0 w own
