@@ -1,6 +1,6 @@
 -- Places in a tree whose parts may name what they name: so much hold what is around has of each slot, and the program's variables that are set have values.
-use Rattle.std.proofs.Common.{◌≡◌, refl, sym, ap, ◌∙◌, subst, ◌≤◌, ◌<◌, ℕ, ◌+◌, Bool, true, false, ◌==◌, ◌⊎◌, inl, inr, List, [], ◌∷◌, ◌++◌, append_assoc, Option, Some, None, arith}
-use Rattle.std.proofs.lemmas.Bool.{and_parts, ltb-true, false≢true}
+use Rattle.std.proofs.Common.{◌≡◌, refl, sym, ap, ◌∙◌, subst, ◌≤◌, ℕ, ◌+◌, Bool, true, false, ◌⊎◌, inl, inr, List, [], ◌∷◌, ◌++◌, append_assoc, Option, Some, None, arith}
+use Rattle.std.proofs.lemmas.Bool.{ltb-true}
 use Rattle.ceu_tree.specs.declared.kernel.Kernel.{Kernel}
 use Rattle.ceu_tree.specs.declared.kernel.KCode.{KCode}
 use Rattle.ceu_tree.specs.declared.kernel.KLoop.{KLoop}
@@ -11,7 +11,7 @@ use Rattle.ceu_tree.specs.declared.kernel.KBlock.{KBlock, out-KBlock}
 use Rattle.ceu_tree.specs.declared.kernel.KStmt as kernel
 use Rattle.ceu_tree.specs.declared.kernel.KStmt.{KStmt, out-KStmt}
 use Rattle.ceu_tree.specs.declared.kernel.KStmt.TheOpen.{KStmt-F}
-use Rattle.ceu_tree.specs.Residual.{Body, Program, Awaited, Residual}
+use Rattle.ceu_tree.specs.Residual.{Body, Program, Residual}
 use Rattle.ceu_tree.specs.World.{World}
 use Rattle.ceu_tree.specs.Leaf.{Layer, code_at}
 use Rattle.ceu_tree.specs.Legal.{Seated, is_set, is_program_variable, program_done, outer_set}
@@ -30,7 +30,7 @@ use Rattle.ceu_counters.proofs.Grips.{point, own}
 use Rattle.ceu_ready.specs.Outer.{layer_code}
 use Rattle.ceu_ready.proofs.Grips.{slots_grip}
 use Rattle.ceu_ready.proofs.Namings.{part_least, in_block, in_opened, in_loop, in_branches, in_awaited, table, code_names, table_named}
-use Rattle.ceu_ready.proofs.Places.{left_of, right_of, code_room, Known, KnownAt, known_list, known_part, known_turn, known_async, known_code, known_inner}
+use Rattle.ceu_ready.proofs.Places.{left_of, right_of, code_room, Known, KnownAt, known_list, known_part, known_turn, known_async, known_code}
 use denote.Hole.Carrier
 
 pub first_as : {A B C : Type 0} → (A → B) → A ⊎ C → B ⊎ C

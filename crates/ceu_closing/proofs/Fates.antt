@@ -1,8 +1,6 @@
 -- What a step leaves where it faults and where an exit goes on: the focus and the world as they were. And what it keeps of the values.
-use Rattle.std.proofs.Common.{◌≡◌, refl, sym, ap, ◌∙◌, subst, ◌≤◌, ℕ, ◌+◌, ℤ, pos, ◌+ℤ◌, int_lt, Bool, true, false, if◌then◌else◌, ◌==◌, List, ◌∷◌, arith}
+use Rattle.std.proofs.Common.{◌≡◌, sym, ap, ℕ, ◌+◌, pos, ◌+ℤ◌, int_lt, Bool, true, false, if◌then◌else◌, ◌==◌, List, arith}
 use Rattle.ceu_base.specs.declared.kinds.Fault.TheVariants.{LoopLimit}
-use Rattle.ceu_base.specs.declared.kinds.Mark.TheVariants as mark
-use Rattle.ceu_tree.specs.declared.kernel.Kernel.{Kernel}
 use Rattle.ceu_tree.specs.declared.kernel.KCode.{KCode}
 use Rattle.ceu_tree.specs.declared.kernel.KLoop.{KLoop}
 use Rattle.ceu_tree.specs.declared.kernel.KLoop.TheVariants as turns
@@ -12,10 +10,10 @@ use Rattle.ceu_tree.specs.declared.kernel.KNode.{KNode}
 use Rattle.ceu_tree.specs.declared.kernel.KBlock.{KBlock, out-KBlock}
 use Rattle.ceu_tree.specs.declared.kernel.KStmt.{out-KStmt}
 use Rattle.ceu_tree.specs.declared.kernel.KStmt.TheOpen.{KStmt-F}
-use Rattle.ceu_tree.specs.Residual.{Body, Awaited, Act, Begin, Counter, Free, Turns, Upward, Residual, Over, Loop, Par, Branches, branch, Instances}
+use Rattle.ceu_tree.specs.Residual.{Body, Awaited, Act, Counter, Turns, Upward, Over, Loop, Par, Branches, branch, Instances}
 use Rattle.ceu_tree.specs.Focus.{Frame, OfBlock, OfInstance, OfOpen, OfLoop, OfCall, OfPar, Focus, Here, In, join, fill, plug, body_in}
-use Rattle.ceu_tree.specs.World.{World, Holds, marked, set, assign_if, dead}
-use Rattle.ceu_tree.specs.Abort.{aborted, closed, forget_loop, returned}
+use Rattle.ceu_tree.specs.World.{World, Holds, set}
+use Rattle.ceu_tree.specs.Abort.{aborted, forget_loop, returned}
 use Rattle.ceu_tree.specs.Leaf.{Layer, Exit, Escape, Break, Continue, target}
 use Rattle.ceu_tree.specs.Around.{Outcome, Goes, Rests, Raises, Fails, Past, Registers, AtBlockEnd, AtLoopHead, Ends, Leaves, Moved, moved, value_with, body_left, open_left, begins_turn, turn_of, next_turn, loop_exit, loop_left, all_over, kind_of, rejoined, through, up, taken, answered}
 use Rattle.ceu_values.specs.Ground.{has}

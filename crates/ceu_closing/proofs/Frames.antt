@@ -1,45 +1,39 @@
 -- An abortion of a part inside which a turn is on, without its leaf, reads no variable without a value.
-use Rattle.std.proofs.Common.{◌≡◌, refl, sym, ap, ◌∙◌, subst, ◌≤◌, ◌<◌, ℕ, ◌+◌, Bool, true, false, if◌then◌else◌, ◌==◌, ◌&&◌, ◌||◌, ◌⊎◌, inl, inr, List, [], ◌∷◌, ◌++◌, append_assoc, Option, Some, None, arith}
-use Rattle.std.proofs.lemmas.Bool.{cases_lt, or_cases, false≢true}
+use Rattle.std.proofs.Common.{◌≡◌, refl, sym, ap, ◌∙◌, subst, ◌≤◌, ℕ, ◌+◌, Bool, true, false, ◌⊎◌, inl, inr, List, [], ◌∷◌, ◌++◌, append_assoc, arith}
+use Rattle.std.proofs.lemmas.Bool.{or_cases, false≢true}
 use Rattle.ceu_tree.specs.declared.kernel.Kernel.{Kernel}
-use Rattle.ceu_tree.specs.declared.kernel.KLoop.{KLoop}
 use Rattle.ceu_tree.specs.declared.kernel.ParKind.{ParKind}
 use Rattle.ceu_tree.specs.declared.kernel.KNode.{KNode}
 use Rattle.ceu_tree.specs.declared.kernel.KBlock.{KBlock, out-KBlock}
 use Rattle.ceu_tree.specs.declared.kernel.KStmt.{out-KStmt}
 use Rattle.ceu_tree.specs.declared.kernel.KStmt.TheOpen.{KStmt-F}
-use Rattle.ceu_tree.specs.Residual.{Body, Program, Awaited, Spawned, Act, Residual, Over, Branches, no_branch, branch, Instances, no_instance, instance}
-use Rattle.ceu_tree.specs.Focus.{Frame, OfBlock, OfInstance, OfOpen, OfLoop, OfCall, OfPar, Focus, Here, In, join, join_instances, fill, plug, body_in}
-use Rattle.ceu_tree.specs.World.{World, dead}
-use Rattle.ceu_tree.specs.Abort.{aborted, branches_aborted, instances_aborted}
-use Rattle.ceu_tree.specs.Leaf.{Layer, code_at}
-use Rattle.ceu_tree.specs.Legal.{Seated, before, same_nodes, is_set, called_code}
+use Rattle.ceu_tree.specs.Residual.{Body, Awaited, Spawned, Residual, Branches, no_branch, branch, Instances, no_instance, instance}
+use Rattle.ceu_tree.specs.Focus.{Frame, OfBlock, OfInstance, OfOpen, OfLoop, OfCall, OfPar, join, join_instances, body_in}
+use Rattle.ceu_tree.specs.World.{World}
+use Rattle.ceu_tree.specs.Abort.{branches_aborted, instances_aborted}
+use Rattle.ceu_tree.specs.Leaf.{code_at}
+use Rattle.ceu_tree.specs.Legal.{Seated, before, is_set, called_code}
 use Rattle.ceu_tree.specs.Mentions.{sets}
 use Rattle.ceu_tree.specs.Proper.{Scope, is_proper}
-use Rattle.ceu_legal.specs.Shape.{Part, ABlock, AStatement, AnEnd, block_scope, part_scope, turn_scope, code_part, opens_part, FrameFits, around_statement, around_end, around_instance, around_part, around_turn, around_call, around_branch, Around, nothing_around, one_around}
-use Rattle.ceu_legal.proofs.Static.{BlockOk, names_of, each_fine}
-use Rattle.ceu_legal.proofs.UpFits.{Sound, frame_sound, layer_of, list_sound}
-use Rattle.ceu_values.specs.Ground.{has}
-use Rattle.ceu_values.specs.Needed.{own_variable, turn_needs}
+use Rattle.ceu_legal.specs.Shape.{Part, ABlock, AStatement, AnEnd, block_scope, FrameFits, around_statement, around_end, around_instance, around_part, around_turn, around_call, around_branch}
+use Rattle.ceu_legal.proofs.UpFits.{Sound}
+use Rattle.ceu_values.specs.Needed.{turn_needs}
 use Rattle.ceu_values.proofs.Counts.{inner_then}
 use Rattle.ceu_values.proofs.Grounds.{inner_ground, branch_ground}
 use Rattle.ceu_values.proofs.Positions.{before_at}
 use Rattle.ceu_values.proofs.Readies.{ready_branch}
 use Rattle.ceu_values.proofs.Stores.{same_self, or_left, or_right}
-use Rattle.ceu_held.proofs.Seats.{frame_seats, focus_seats}
+use Rattle.ceu_held.proofs.Seats.{frame_seats}
 use Rattle.ceu_held.proofs.Aborts.{instances_joined}
 use Rattle.ceu_values.proofs.FocusSpares.{branches_joined}
-use Rattle.ceu_counters.specs.Counters.{is_first, at_loop}
-use Rattle.ceu_counters.proofs.Grips.{point, own}
-use Rattle.ceu_ready.specs.Needed.{block_asks, asked, given_needed, turn_needed, needed, needed_each, needed_all, frame_needed, focus_needed}
-use Rattle.ceu_ready.proofs.Grips.{slots_grip, given_grip, grip, grip_each, grip_all, frame_grip, focus_grip}
+use Rattle.ceu_counters.proofs.Grips.{own}
+use Rattle.ceu_ready.specs.Needed.{turn_needed, frame_needed}
+use Rattle.ceu_ready.proofs.Grips.{frame_grip}
 use Rattle.ceu_ready.proofs.Places.{known_inner}
-use Rattle.ceu_ready.proofs.Settled.{asked_yes, each_unneeded, all_unneeded, unneeded, focus_unneeded}
-use Rattle.ceu_ready.proofs.Aborts.{body_spared, aborted_spared, each_spared, all_spared, focus_spared}
-use Rattle.ceu_closing.specs.Closing.{aborted_reads, branches_read, instances_read, closed_reads}
-use Rattle.ceu_closing.proofs.Registered.{SetBefore, set_before}
-use Rattle.ceu_closing.proofs.Envs.{SeatSet, Named, NamedInCode, named_list, named_part, named_turn, named_branch, named_call, held, Low, Env, Keeps, low_kept, low_more, env_kept, env_list, env_end, env_part, env_turn, EachNamed, Envs, each_ready, each_named, envs_kept}
-use Rattle.ceu_closing.proofs.Trees.{Most, Has, Spares, with_decls, block_fine, done_has, with_code, code_env, code_named, nil_end, still_has, tree_fine, branches_fine, all_fine}
+use Rattle.ceu_ready.proofs.Settled.{asked_yes}
+use Rattle.ceu_closing.specs.Closing.{aborted_reads, branches_read, instances_read}
+use Rattle.ceu_closing.proofs.Envs.{SeatSet, Named, NamedInCode, named_list, named_part, named_turn, named_branch, named_call, held, Env, low_more, env_list, env_end, env_part, env_turn, Envs, each_ready}
+use Rattle.ceu_closing.proofs.Trees.{Has, with_decls, done_has, with_code, code_env, code_named, nil_end}
 
 pub joined_read : (front back : Instances) (w : World) → instances_read back w → instances_read front (instances_aborted back w) → instances_read (join_instances front back) w
 unfolding instances_read

@@ -1,31 +1,28 @@
 -- A kill reads no variable without a value, and leaves their values to the slots that something else has hold of.
-use Rattle.std.proofs.Common.{◌≡◌, refl, sym, ap, subst, ◌≤◌, ◌<◌, ℕ, ◌+◌, Bool, true, false, ◌==◌, ◌⊎◌, inl, inr, List, arith, eqb-true}
+use Rattle.std.proofs.Common.{◌≡◌, refl, subst, ◌≤◌, ◌<◌, ℕ, ◌+◌, Bool, true, false, ◌==◌, ◌⊎◌, inl, inr, arith, eqb-true}
 use Rattle.std.proofs.lemmas.Bool.{cases_lt}
 use Rattle.ceu_tree.specs.declared.kernel.Kernel.{Kernel}
-use Rattle.ceu_tree.specs.declared.kernel.KNode.{KNode}
-use Rattle.ceu_tree.specs.declared.kernel.KBlock.{KBlock}
-use Rattle.ceu_tree.specs.Residual.{Body, Spawned, Act, AtEnd, Residual, Instances, no_instance, instance}
+use Rattle.ceu_tree.specs.Residual.{Body, Spawned, Act, AtEnd, Residual, Instances}
 use Rattle.ceu_tree.specs.Focus.{Frame, OfBlock, OfInstance, OfOpen, OfLoop, OfCall, OfPar, Focus, Here, In, body_in}
 use Rattle.ceu_tree.specs.World.{World}
 use Rattle.ceu_tree.specs.Leaf.{code_at}
 use Rattle.ceu_tree.specs.Legal.{Seated}
-use Rattle.ceu_tree.specs.Step.{unseat_frame, unseat, killed_in, kill_frame, killed}
+use Rattle.ceu_tree.specs.Step.{kill_frame}
 use Rattle.ceu_tree.specs.Proper.{Scope, is_proper}
 use Rattle.ceu_legal.specs.Shape.{Part, AllFit, none_lives, one_lives, FrameFits, around_statement, around_end, around_instance, around_part, around_turn, around_call, around_branch, Around, nothing_around, one_around}
 use Rattle.ceu_legal.proofs.Static.{code_static}
 use Rattle.ceu_legal.proofs.UpFits.{Sound, frame_sound}
 use Rattle.ceu_values.specs.Ground.{has}
 use Rattle.ceu_held.proofs.Seats.{all_seats, frame_seats, focus_seats}
-use Rattle.ceu_counters.specs.Counters.{is_first, at_loop}
-use Rattle.ceu_counters.proofs.Grips.{point}
-use Rattle.ceu_ready.specs.Needed.{given_needed, needed, needed_all, frame_needed, focus_needed}
-use Rattle.ceu_ready.proofs.Grips.{given_grip, grip, grip_all, frame_grip, focus_grip, unseat_frame_less}
+use Rattle.ceu_counters.specs.Counters.{is_first}
+use Rattle.ceu_ready.specs.Needed.{needed, needed_all, frame_needed}
+use Rattle.ceu_ready.proofs.Grips.{grip, grip_all, frame_grip, focus_grip, unseat_frame_less}
 use Rattle.ceu_ready.proofs.Settled.{focus_unneeded}
 use Rattle.ceu_ready.proofs.Aborts.{killed_spared}
 use Rattle.ceu_closing.specs.Closing.{aborted_reads, if_reads, all_killed_read, frame_killed_reads, killed_reads}
-use Rattle.ceu_closing.proofs.Envs.{SeatSet, held, Low, Env, env_kept}
-use Rattle.ceu_closing.proofs.Trees.{Most, Has, Spares, with_decls, with_code, code_env, code_named, tree_fine}
-use Rattle.ceu_closing.proofs.Frames.{inner_hold, hold_less, held_less, Names, frame_names, frame_env}
+use Rattle.ceu_closing.proofs.Envs.{SeatSet, Low, Env, env_kept}
+use Rattle.ceu_closing.proofs.Trees.{Most, Has, with_decls, with_code, code_env, code_named, tree_fine}
+use Rattle.ceu_closing.proofs.Frames.{inner_hold, held_less, Names, frame_names, frame_env}
 use Rattle.ceu_closing.proofs.Up.{Needs, Grips, needs_inner, grips_inner}
 
 module _ (K : Kernel) (proper : is_proper K ≡ true) (root : Residual) where
@@ -81,12 +78,13 @@ module _ (K : Kernel) (proper : is_proper K ≡ true) (root : Residual) where
       let p = inner_hold K proper root fr here o in
       let env = frame_env K proper root a ok false here o w v h.0 refl in
       let w1 = kill_frame k fr w in
-      let kept = λ (b : Body) (x : ℕ) (l : 3 ≤ p b x + focus_grip K.codes b x (body_in fr here) (In gr g)). frame_kill_kept k fr here o w b x (focus_grip K.codes b x (body_in fr here) (In gr g)) (m b x) l in
-      (frame_kill_fine k a here o w v (λ b x. (let i = m b x in omega (arith, i))) false h.0 st,
-          kill_fine k g a2 more inner (body_in fr here) p (frame_names K proper root a2 inner (body_in fr here) sf.0 n.inner) w1
-          (env_kept K proper root c (body_in fr here) p w w1 (λ b x l. kept b x (let i = held_less K proper root a2 (body_in fr here) p b x in omega (arith, i, l))) env) (grips_inner K proper root fr gr g here o m)
-          (needs_inner K proper root gr g (body_in fr here) w1 (λ b x l. go (cases_lt 2 (p b x + focus_grip K.codes b x (body_in fr here) (In gr g))) (λ y. kept b x y (h.1 b x l))
-              (λ y. absurd (let i = focus_unneeded K proper b x is_first (In gr g) c _ (one_around a2 more) inner (body_in fr here) env.ground (p b x) env.on (env.known b x) y in omega (arith, i, l))))) sf.0 sf.1)
+      let kept = λ (b : Body) (x : ℕ) (l : 3 ≤ p b x + focus_grip K.codes b x (body_in fr here) (In gr g)). frame_kill_kept k fr here o w b x (focus_grip K.codes b x (body_in fr here) (In gr g)) (m b x) l in (
+        frame_kill_fine k a here o w v (λ b x. (let i = m b x in omega (arith, i))) false h.0 st,
+        kill_fine k g a2 more inner (body_in fr here) p (frame_names K proper root a2 inner (body_in fr here) sf.0 n.inner) w1
+            (env_kept K proper root c (body_in fr here) p w w1 (λ b x l. kept b x (let i = held_less K proper root a2 (body_in fr here) p b x in omega (arith, i, l))) env) (grips_inner K proper root fr gr g here o m)
+            (needs_inner K proper root gr g (body_in fr here) w1 (λ b x l. go (cases_lt 2 (p b x + focus_grip K.codes b x (body_in fr here) (In gr g))) (λ y. kept b x y (h.1 b x l))
+            (λ y. absurd (let i = focus_unneeded K proper b x is_first (In gr g) c _ (one_around a2 more) inner (body_in fr here) env.ground (p b x) env.on (env.known b x) y in omega (arith, i, l))))) sf.0 sf.1,
+      )
     where
       go : {n : ℕ} {A : Type 0} → (2 < n) ⊎ (n ≤ 2) → (3 ≤ n → A) → (n ≤ 2 → A) → A
       go (inl l) y z = y (omega (arith, l))

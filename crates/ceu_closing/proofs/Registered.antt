@@ -1,5 +1,5 @@
 -- Finalizers that are registered read no variable without a value, where their block may name what it names.
-use Rattle.std.proofs.Common.{◌≡◌, refl, sym, ap, ◌∙◌, subst, ◌≤◌, ℕ, ℤ, Bool, true, false, if◌then◌else◌, ◌==◌, ◌&&◌, ◌||◌, ◌⊎◌, inl, inr, List, [], ◌∷◌, ◌++◌, append_assoc, Option, Some, None, Ok, Err, arith, eq-eqb}
+use Rattle.std.proofs.Common.{◌≡◌, refl, sym, ap, ◌∙◌, subst, ◌≤◌, ℕ, Bool, true, false, if◌then◌else◌, ◌==◌, ◌&&◌, ◌||◌, ◌⊎◌, inl, inr, List, [], ◌∷◌, ◌++◌, append_assoc, Option, Some, None, Ok, Err, arith, eq-eqb}
 use Rattle.std.proofs.lemmas.Bool.{and_parts, and_from, or_cases, false≢true}
 use Rattle.ceu_base.specs.declared.kinds.Ty.{Ty}
 use Rattle.ceu_base.specs.declared.kinds.Pos.{Pos}
@@ -23,7 +23,7 @@ use Rattle.ceu_tree.specs.Typing.{node_typed, operand_typed, typed, holds_all}
 use Rattle.ceu_tree.specs.Abort.{or_fault, simple, unless_fault, finalizer_list, runs_one}
 use Rattle.ceu_tree.specs.Legal.{is_set, is_finalizer, finalizers_of, is_program_variable}
 use Rattle.ceu_tree.specs.Mentions.{sets, loc_names, node_names, operand_names, exp_names, maybe_exp, stmt_names, block_names, count_of}
-use Rattle.ceu_tree.specs.Proper.{Scope, find, declared_seen, slot_kind, variable_ty, has_ty, is_alias, looked_up, reads, asks, gives, gives_if, takes, on_ty, port_ty, outside_asyncs, is_in_code, in_finalizer, stmt_ok, is_proper}
+use Rattle.ceu_tree.specs.Proper.{Scope, find, declared_seen, slot_kind, variable_ty, has_ty, reads, asks, gives, gives_if, takes, on_ty, port_ty, outside_asyncs, is_in_code, in_finalizer, stmt_ok, is_proper}
 use Rattle.ceu_legal.specs.Shape.{ABlock, AStatement, block_scope}
 use Rattle.ceu_legal.proofs.Static.{BlockOk, StmtOk, names_of, nodes_fine}
 use Rattle.ceu_legal.proofs.UpFits.{list_sound}
@@ -166,9 +166,10 @@ module _ (K : Kernel) (sc : Scope) (body : Body) (T : List (List ℕ)) where
   list_fine : (ss : List KNode) (m p : ℕ → ℕ) (w : World) → nodes_fine K (names_of K) sc ss → Named true (names_of K) m ss → Named false T p ss → ((x : ℕ) → is_cell (find x sc.seen) ≡ true → (has body x w ≡ true) ⊎ (m x ≡ 0)) → OuterHas w p
       → list_reads ss body w
   list_fine [] m p w ok a b own out = tt
-  list_fine (s ∷ ss) m p w ok a b own out =
-      (unless_reads w (simple_reads body w s.stmt) (simple_fine w s.node s.stmt ok.0 (started_has K sc body w s.node s.stmt ok.0 (λ x c. fine x (own x c))) (λ x v c l. out x v c (let z = b.0 x in omega (arith, z, l)))),
-          list_fine ss m p (unless_fault (simple s.stmt body) w) ok.1 a.1 b.1 (λ x c. kept x (own x c)) (λ x v c l. keep Program x (out x v c l)))
+  list_fine (s ∷ ss) m p w ok a b own out = (
+    unless_reads w (simple_reads body w s.stmt) (simple_fine w s.node s.stmt ok.0 (started_has K sc body w s.node s.stmt ok.0 (λ x c. fine x (own x c))) (λ x v c l. out x v c (let z = b.0 x in omega (arith, z, l)))),
+    list_fine ss m p (unless_fault (simple s.stmt body) w) ok.1 a.1 b.1 (λ x c. kept x (own x c)) (λ x v c l. keep Program x (out x v c l)),
+  )
     where
       keep : (c : Body) (x : ℕ) → has c x w ≡ true → has c x (unless_fault (simple s.stmt body) w) ≡ true
       keep c x h = unless_kept c x (simple s.stmt body) w (simple_kept c x s.stmt body w h) h
@@ -259,12 +260,14 @@ module _ (K : Kernel) (proper : is_proper K ≡ true) (turn : Bool) (sc : Scope)
       → OuterHas K sc body T w (λ x. count_of x (block_names false T b)) → Each K proper (block_scope sc b) body T w back
   each_done done rest front [] e f need out = tt
   each_done done rest front (q ∷ back) e f need out =
-      let at : (out-KBlock b).list ≡ front ++ q ∷ (back ++ rest) = e ∙ (ap (λ l. l ++ rest) f ∙ append_assoc front (q ∷ back) rest) in
-      (record {
-        ok = list_sound K proper sc b front q (back ++ rest) ok at;
-        ready = ready_list K body w turn sc b front q (back ++ rest) ok at (need front q back f) ready;
-        outer = λ x v c l. out x v c (let z = in_block false T x b front q (back ++ rest) at in omega (arith, z, l));
-      }, each_done done rest (front ++ q ∷ []) back e (f ∙ sym (append_assoc front (q ∷ []) back)) need out)
+      let at : (out-KBlock b).list ≡ front ++ q ∷ (back ++ rest) = e ∙ (ap (λ l. l ++ rest) f ∙ append_assoc front (q ∷ back) rest) in (
+        record {
+          ok = list_sound K proper sc b front q (back ++ rest) ok at;
+          ready = ready_list K body w turn sc b front q (back ++ rest) ok at (need front q back f) ready;
+          outer = λ x v c l. out x v c (let z = in_block false T x b front q (back ++ rest) at in omega (arith, z, l));
+        },
+        each_done done rest (front ++ q ∷ []) back e (f ∙ sym (append_assoc front (q ∷ []) back)) need out,
+      )
 
   -- those of the statements of a block that are done, each of which has set what it sets
   pub registered_reads : (done rest : List KNode) → (out-KBlock b).list ≡ done ++ rest → SetBefore b body w done

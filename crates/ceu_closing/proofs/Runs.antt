@@ -1,5 +1,5 @@
 -- Each step of the reactions of a run closes and aborts what reads no variable without a value.
-use Rattle.std.proofs.Common.{◌≡◌, subst, ◌≤◌, ℕ, true, List, arith}
+use Rattle.std.proofs.Common.{◌≡◌, subst, ℕ, true, List, arith}
 use Rattle.ceu_tree.specs.declared.command.Command.{Command}
 use Rattle.ceu_tree.specs.declared.kernel.Kernel.{Kernel}
 use Rattle.ceu_tree.specs.Residual.{Act}

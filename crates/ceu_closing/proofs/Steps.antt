@@ -1,31 +1,30 @@
 -- What a step of a turn closes, aborts and kills reads no variable without a value, nor does the abortion of what is left after a fault.
-use Rattle.std.proofs.Common.{◌≡◌, refl, sym, ap, ◌∙◌, subst, ◌≤◌, ◌<◌, ℕ, zero, suc, ◌+◌, ℤ, pos, Bool, true, false, if◌then◌else◌, ◌==◌, ◌⊎◌, inl, inr, List, ◌∷◌, Option, Some, None, arith}
+use Rattle.std.proofs.Common.{◌≡◌, refl, sym, ap, subst, ◌≤◌, ◌<◌, ℕ, zero, suc, ◌+◌, ℤ, pos, Bool, true, false, if◌then◌else◌, ◌==◌, ◌⊎◌, inl, inr, List, ◌∷◌, Option, Some, None, arith}
 use Rattle.std.proofs.lemmas.Bool.{cases_lt}
 use Rattle.ceu_base.specs.declared.kinds.Pos.{Pos}
 use Rattle.ceu_base.specs.declared.kinds.Fault.{Fault}
 use Rattle.ceu_base.specs.declared.kinds.Fault.TheVariants.{SpawnCount}
 use Rattle.ceu_base.specs.declared.kinds.Mark.TheVariants as mark
-use Rattle.ceu_tree.specs.declared.command.Command.{Command}
 use Rattle.ceu_tree.specs.declared.kernel.Kernel.{Kernel}
 use Rattle.ceu_tree.specs.declared.kernel.KCode.{KCode}
 use Rattle.ceu_tree.specs.declared.kernel.KNode.{KNode}
 use Rattle.ceu_tree.specs.Residual.{Body, Program, Spawned as InstanceBody, Act, Begin, Finish, Residual, Over, Run}
-use Rattle.ceu_tree.specs.Focus.{Focus, Here, In, plug, leaf, body_of}
+use Rattle.ceu_tree.specs.Focus.{Focus, Here, plug, leaf, body_of}
 use Rattle.ceu_tree.specs.World.{World, NotSet, Names, marked, set_alias, set_parameters}
 use Rattle.ceu_tree.specs.Leaf as does
 use Rattle.ceu_tree.specs.Leaf.{Does, acted}
-use Rattle.ceu_tree.specs.Around.{Outcome, Rests, Raises, Goes, Fails, Past, Registers, AtBlockEnd, AtLoopHead, Leaves, Moved, moved, answered}
+use Rattle.ceu_tree.specs.Around.{Outcome, Raises, Fails, Past, Registers, AtBlockEnd, AtLoopHead, Leaves, Moved, moved, answered}
 use Rattle.ceu_tree.specs.Step.{free_place, seated, spawned_at, unseat, killed, does_in, stepped}
 use Rattle.ceu_tree.specs.Proper.{is_proper}
-use Rattle.ceu_tree.specs.Run.{Config, Turning, Between, Waiting, booted, steps, done, run}
-use Rattle.ceu_legal.specs.Shape.{Part, program_part, Fits, Around, TurnFits, ConfigFits}
+use Rattle.ceu_tree.specs.Run.{Turning, Between, Waiting}
+use Rattle.ceu_legal.specs.Shape.{program_part, Fits, TurnFits, ConfigFits}
 use Rattle.ceu_legal.proofs.StepFits.{around_sound, unseated_around}
-use Rattle.ceu_legal.proofs.RunFits.{root_sound, steps_fit, booted_fits, done_fits, run_fits}
+use Rattle.ceu_legal.proofs.RunFits.{root_sound}
 use Rattle.ceu_values.specs.Ground.{has}
 use Rattle.ceu_values.proofs.Grounds.{program_ground}
 use Rattle.ceu_held.proofs.Seats.{focus_seats, unplug_seats, unseat_seats}
 use Rattle.ceu_held.proofs.Agree.{listed}
-use Rattle.ceu_living.specs.Instances.{TreeStands, InstancesStand}
+use Rattle.ceu_living.specs.Instances.{TreeStands}
 use Rattle.ceu_living.proofs.Living.{lives}
 use Rattle.ceu_living.proofs.Lists.{Counts}
 use Rattle.ceu_living.proofs.Trees.{live_focus}
@@ -42,12 +41,11 @@ use Rattle.ceu_ready.proofs.Bounds.{grip_within, around_within}
 use Rattle.ceu_ready.proofs.Settled.{focus_unneeded}
 use Rattle.ceu_ready.proofs.Aborts.{killed_spared}
 use Rattle.ceu_ready.proofs.Leaf.{alias_keeps, acted_fine}
-use Rattle.ceu_closing.specs.Closing.{aborted_reads, up_reads, killed_reads, spawned_reads, does_reads, step_reads}
+use Rattle.ceu_closing.specs.Closing.{aborted_reads, up_reads, spawned_reads, does_reads, step_reads}
 use Rattle.ceu_closing.specs.Laws.{Closes}
 use Rattle.ceu_closing.proofs.Envs.{SeatSet}
-use Rattle.ceu_closing.proofs.Trees.{Most, Has}
 use Rattle.ceu_closing.proofs.Fates.{Fate, answered_fate}
-use Rattle.ceu_closing.proofs.Whole.{around, SameDone, root_abort, root_up, root_kill, tree_abort, same_plugged, same_unseated}
+use Rattle.ceu_closing.proofs.Whole.{root_abort, root_up, root_kill, tree_abort, same_plugged, same_unseated}
 
 module _ (K : Kernel) (proper : is_proper K ≡ true) where
   -- ---- an abortion of the program
@@ -152,12 +150,12 @@ module _ (K : Kernel) (proper : is_proper K ≡ true) where
         go : (b : Bool)
             → Aborts (if b then moved (Fails (SpawnCount, s.pos) (plug f Over)) w else moved (Raises (plug (seated (record { pool = pool; place = place; code = code; number = w.given + 1 }) (Run (n + 1) (Begin c.body)) f) (Run n (Finish s (pos 0))))) (marked (mark.Push (n + 1)) (marked (mark.Spawned (w.given + 1)) (set_parameters (InstanceBody (w.given + 1)) c.params vs (set_alias body alias (Names (w.given + 1)) (record w { given = w.given + 1; living = (w.given + 1) ∷ w.living }))))))
         go true = fails_aborts (SpawnCount, s.pos) w own
-        go false z r e = absurd (cc)
+        go false = λ z r e. absurd (cc)
 
     does_aborts : (y : Does) (w : World) → Own w → Aborts (does_in K n Program body f y w)
-    does_aborts (does.Opens x) w own z r e = absurd (cc)
-    does_aborts (does.Waits q) w own z r e = absurd (cc)
-    does_aborts (does.Emits s event v) w own z r e = absurd (cc)
+    does_aborts (does.Opens x) w own = λ z r e. absurd (cc)
+    does_aborts (does.Waits q) w own = λ z r e. absurd (cc)
+    does_aborts (does.Emits s event v) w own = λ z r e. absurd (cc)
     does_aborts does.Passes w own = answered_aborts f Past w (λ a. tt) (abort_of w own)
     does_aborts (does.Leaves node x) w own = answered_aborts f (Leaves node x) w (λ a. refl) (abort_of w own)
     does_aborts (does.Registers s) w own = answered_aborts f (Registers s) w (λ a. tt) (abort_of w own)

@@ -4,7 +4,6 @@ use Rattle.std.specs.List.{list_all}
 use Rattle.std.proofs.lemmas.Bool.{and_parts, and_from, cases_lt, false≢true}
 use Rattle.ceu_tree.specs.declared.kernel.Kernel.{Kernel}
 use Rattle.ceu_tree.specs.declared.kernel.KCode.{KCode}
-use Rattle.ceu_tree.specs.declared.kernel.KDecl.{KDecl}
 use Rattle.ceu_tree.specs.declared.kernel.KLoop.{KLoop}
 use Rattle.ceu_tree.specs.declared.kernel.KLoop.TheVariants as turns
 use Rattle.ceu_tree.specs.declared.kernel.ParKind.{ParKind}
@@ -13,18 +12,18 @@ use Rattle.ceu_tree.specs.declared.kernel.KBlock.{KBlock, out-KBlock}
 use Rattle.ceu_tree.specs.declared.kernel.KStmt as kernel
 use Rattle.ceu_tree.specs.declared.kernel.KStmt.{KStmt, out-KStmt}
 use Rattle.ceu_tree.specs.declared.kernel.KStmt.TheOpen.{KStmt-F}
-use Rattle.ceu_tree.specs.Residual.{Body, Program, Awaited, Spawned, Residual, Branches, no_branch, branch, Instances, no_instance, instance}
-use Rattle.ceu_tree.specs.World.{World, dead}
+use Rattle.ceu_tree.specs.Residual.{Body, Awaited, Spawned, Residual, Branches, Instances}
+use Rattle.ceu_tree.specs.World.{World}
 use Rattle.ceu_tree.specs.Abort.{aborted, branches_aborted, instances_aborted}
 use Rattle.ceu_tree.specs.Leaf.{Layer, code_at}
-use Rattle.ceu_tree.specs.Legal.{is_set, is_program_variable, program_done, outer_set, called_code, before, finalizers_of}
-use Rattle.ceu_tree.specs.Mentions.{body_target, named_by, outer_names_from, block_names, count_of}
-use Rattle.ceu_tree.specs.Proper.{Scope, Where, InTrail, is_trail, is_pool_of, alias_takes, find, stmt_ok, is_proper}
-use Rattle.ceu_legal.specs.Shape.{Part, ABlock, AStatement, AnEnd, block_scope, part_scope, turn_scope, code_part, in_trail, opens_part, Fits, to_begin, to_turn, in_list, to_finish, at_input, at_time, at_event, at_forever, at_async, in_part, in_turn, in_call, in_par, EachFits, no_more, an_ended, a_branch, AllFit, none_lives, one_lives}
-use Rattle.ceu_legal.proofs.Static.{BlockOk, StmtOk, names_of, each_fine, code_static}
+use Rattle.ceu_tree.specs.Legal.{is_set, is_program_variable, program_done, called_code, before, finalizers_of}
+use Rattle.ceu_tree.specs.Mentions.{body_target, named_by, outer_names_from, count_of}
+use Rattle.ceu_tree.specs.Proper.{Scope, is_trail, is_pool_of, alias_takes, find, stmt_ok, is_proper}
+use Rattle.ceu_legal.specs.Shape.{Part, ABlock, part_scope, turn_scope, code_part, in_trail, Fits, to_begin, to_turn, in_list, to_finish, at_input, at_time, at_event, at_forever, at_async, in_part, in_turn, in_call, in_par, EachFits, no_more, an_ended, a_branch, AllFit, none_lives, one_lives}
+use Rattle.ceu_legal.proofs.Static.{BlockOk, names_of, each_fine, code_static}
 use Rattle.ceu_legal.proofs.UpFits.{Sound, layer_of, list_sound, part_sound}
-use Rattle.ceu_values.specs.Ground.{has, Ground, Numbered, On}
-use Rattle.ceu_values.specs.Needed.{some_done, own_variable, turn_needs}
+use Rattle.ceu_values.specs.Ground.{has}
+use Rattle.ceu_values.specs.Needed.{some_done, turn_needs}
 use Rattle.ceu_values.specs.Ready.{declares}
 use Rattle.ceu_values.proofs.Counts.{halves, blocks_slots_all, blocks_nodes_all}
 use Rattle.ceu_values.proofs.Grounds.{inner_ground}
@@ -37,12 +36,12 @@ use Rattle.ceu_ready.specs.Needed.{own_target, block_asks, asked, given_needed, 
 use Rattle.ceu_ready.specs.Outer.{layer_code}
 use Rattle.ceu_ready.proofs.Grips.{slots_grip, given_grip, grip, grip_each, grip_all}
 use Rattle.ceu_ready.proofs.Namings.{table, code_names}
-use Rattle.ceu_ready.proofs.Places.{left_of, code_room, declared_held, known_code, known_inner, given_is}
-use Rattle.ceu_ready.proofs.Settled.{asked_yes, unneeded, each_unneeded, all_unneeded}
-use Rattle.ceu_ready.proofs.Aborts.{body_spared, aborted_spared, each_spared, all_spared}
+use Rattle.ceu_ready.proofs.Places.{left_of, declared_held, known_inner}
+use Rattle.ceu_ready.proofs.Settled.{asked_yes, unneeded, all_unneeded}
+use Rattle.ceu_ready.proofs.Aborts.{aborted_spared, each_spared, all_spared}
 use Rattle.ceu_closing.specs.Closing.{aborted_reads, branches_read, instances_read, finalized_reads, closed_reads}
 use Rattle.ceu_closing.proofs.Registered.{SetBefore, set_before, registered_reads}
-use Rattle.ceu_closing.proofs.Envs.{Variable, IsSet, SeatSet, named, Named, code_of, NamedInCode, named_list, named_part, named_turn, named_async, named_call, held, Low, Env, Keeps, low_kept, low_more, env_kept, env_list, env_part, env_turn, env_async, env_code, EachReady, EachNamed, Envs, each_ready, each_named, envs_kept}
+use Rattle.ceu_closing.proofs.Envs.{SeatSet, Named, NamedInCode, named_list, named_part, named_turn, named_async, named_call, held, Low, Env, Keeps, low_kept, low_more, env_kept, env_list, env_part, env_turn, env_async, env_code, EachNamed, Envs, each_ready, each_named, envs_kept}
 use denote.Hole.Carrier
 
 counted_holds : (f : ℕ → Bool) (x : ℕ) (ys : List ℕ) → list_all f ys ≡ true → 1 ≤ count_of x ys → f x ≡ true
@@ -94,10 +93,12 @@ module _ (K : Kernel) (proper : is_proper K ≡ true) (root : Residual) where
       → BlockOk K (names_of K) sc c → NamedInCode K proper root (ABlock turn sc c) → Env K proper root (ABlock turn sc c) here o w → SetBefore c here w done
       → Most (with_decls here c o) (λ b x. m b x + p b x) → aborted_reads q here w → Spares m w (aborted q here w) → Spares p (aborted q here w) (instances_aborted all (aborted q here w)) → instances_read all (aborted q here w)
       → aborted_reads q here w × closed_reads fin all here (aborted q here w)
-  block_fine turn sc c fin all done rest q here o p m w e f ok code v need most inside spares others reads =
-      (inside, closed_fine turn sc c fin all done rest here o p u e f ok code (env_kept K proper root (ABlock turn sc c) here o w u keep v)
-          (λ front q back g x d i. keep here x (declared_held K proper here x here (out-KBlock c).decls (o here x) ((v.known here x).room) (same_self here) d) (need front q back g x d i))
-          (λ b x. (let a = most b x in omega (arith, a))) others reads)
+  block_fine turn sc c fin all done rest q here o p m w e f ok code v need most inside spares others reads = (
+    inside,
+    closed_fine turn sc c fin all done rest here o p u e f ok code (env_kept K proper root (ABlock turn sc c) here o w u keep v)
+        (λ front q back g x d i. keep here x (declared_held K proper here x here (out-KBlock c).decls (o here x) ((v.known here x).room) (same_self here) d) (need front q back g x d i))
+        (λ b x. (let a = most b x in omega (arith, a))) others reads,
+  )
     where
       u : World
       u = aborted q here w
@@ -172,7 +173,7 @@ module _ (K : Kernel) (proper : is_proper K ≡ true) (root : Residual) where
         let spares : Spares (λ b x. grip K.codes b x here r) w w1 = λ b x l k. aborted_spared K.codes b x r here w l k in
         let inside = tree_fine more (list_sound K proper sc c done s rest ok e) here p w (named_list K proper root turn sc c done s rest e n) env (λ b x. (let a = m b x in omega (arith, a))) (λ b x l. h b x (omega (arith, l))) (λ z. (st z).1) in
         let others = all_fine fit p w1 here (low_kept K proper root p w w1 (λ b x l k. spares b x (let a = m b x in omega (arith, a, l)) k) env.low) (λ b x. (let a = m b x in omega (arith, a)))
-            (still_has (λ b x. needed_all K.codes b x all) (λ b x. grip_all K.codes b x all) (λ b x. grip K.codes b x here r) w w1 (λ b x l. all_unneeded K proper b x fit l) (λ b x. (let a = m b x in omega (arith, a))) spares (λ b x l. h b x (omega (arith, l)))) (λ z. (st z).0) in
+        (still_has (λ b x. needed_all K.codes b x all) (λ b x. grip_all K.codes b x all) (λ b x. grip K.codes b x here r) w w1 (λ b x l. all_unneeded K proper b x fit l) (λ b x. (let a = m b x in omega (arith, a))) spares (λ b x l. h b x (omega (arith, l)))) (λ z. (st z).0) in
         let z = block_fine turn sc c fin all done (s ∷ rest) r here o (λ b x. grip_all K.codes b x all) (λ b x. grip K.codes b x here r) w e f ok (λ q. n) v (set_before c here w done need) (λ b x. (let a = m b x in omega (arith, a))) inside spares (λ b x l k. all_spared K.codes b x all w1 l k) others in
         (z.0, z.1.0, z.1.1)
     tree_fine (to_finish l p) ok here o w n v m h st = tt
@@ -202,21 +203,24 @@ module _ (K : Kernel) (proper : is_proper K ≡ true) (root : Residual) where
         → Most o (λ b x. grip_each K.codes b x here rs) → Has (λ b x. needed_each K.codes b x here rs) w → (is_trail sc.place ≡ true → branches_seats (SeatSet K proper root) rs here) → branches_read rs here w
     branches_fine no_more ok here o w n v m h st = tt
     branches_fine (an_ended {sc = sc} {b = c} {bs = bs} p rest) ok here o w n v m h st =
-        let i = halves (block_slots c) (blocks_slots_all bs) (block_nodes c) (blocks_nodes_all bs) v.ground v.on in
-        (branches_fine rest ok.1 here o w n.1 (record { ground = i.right; on = i.on_right; known = λ b x. known_inner K proper b x sc i.right v.ground here (o b x) i.inner_right (v.known b x); ready = v.ready.1; low = v.low })
-        (λ b x. (let a = m b x in omega (arith, a))) (λ b x l. h b x (omega (arith, l))) (λ z. (st z).1), tt)
+        let i = halves (block_slots c) (blocks_slots_all bs) (block_nodes c) (blocks_nodes_all bs) v.ground v.on in (
+          branches_fine rest ok.1 here o w n.1 (record { ground = i.right; on = i.on_right; known = λ b x. known_inner K proper b x sc i.right v.ground here (o b x) i.inner_right (v.known b x); ready = v.ready.1; low = v.low })
+              (λ b x. (let a = m b x in omega (arith, a))) (λ b x l. h b x (omega (arith, l))) (λ z. (st z).1),
+          tt,
+        )
     branches_fine (a_branch {sc = sc} {b = c} {bs = bs} {r = r} {more = more} fit rest) ok here o w n v m h st =
         let i = halves (block_slots c) (blocks_slots_all bs) (block_nodes c) (blocks_nodes_all bs) v.ground v.on in
         let w1 = branches_aborted more here w in
         let spares : Spares (λ b x. grip_each K.codes b x here more) w w1 = λ b x l k. each_spared K.codes b x more here w l k in
         let u = envs_kept K proper root sc (c ∷ bs) here o w w1 (λ b x l k. spares b x (let a = m b x in omega (arith, a, l)) k) v in
-        let kn = λ (b : Body) (x : ℕ). known_inner K proper b x sc i.left v.ground here (o b x) i.inner_left (v.known b x) in
-        (branches_fine rest ok.1 here o w n.1 (record { ground = i.right; on = i.on_right; known = λ b x. known_inner K proper b x sc i.right v.ground here (o b x) i.inner_right (v.known b x); ready = v.ready.1; low = v.low })
-            (λ b x. (let a = m b x in omega (arith, a))) (λ b x l. h b x (omega (arith, l))) (λ z. (st z).1),
-            tree_fine fit ok.0 here o w1 n.0 (record { ground = i.left; on = i.on_left; known = kn; ready = u.ready.0; low = low_more K proper root o (held K proper root (ABlock false sc c) here o) w1 (λ x. omega arith) u.low })
-            (λ b x. (let a = m b x in omega (arith, a)))
-            (still_has (λ b x. needed K.codes b x here r) (λ b x. o b x + grip K.codes b x here r) (λ b x. grip_each K.codes b x here more) w w1 (λ b x l. unneeded K proper b x fit ok.0 here i.left (o b x) i.on_left (kn b x) l) (λ b x. (let a = m b x in omega (arith, a))) spares (λ b x l. h b x (omega (arith, l))))
-            (λ z. (st z).0))
+        let kn = λ (b : Body) (x : ℕ). known_inner K proper b x sc i.left v.ground here (o b x) i.inner_left (v.known b x) in (
+          branches_fine rest ok.1 here o w n.1 (record { ground = i.right; on = i.on_right; known = λ b x. known_inner K proper b x sc i.right v.ground here (o b x) i.inner_right (v.known b x); ready = v.ready.1; low = v.low })
+              (λ b x. (let a = m b x in omega (arith, a))) (λ b x l. h b x (omega (arith, l))) (λ z. (st z).1),
+          tree_fine fit ok.0 here o w1 n.0 (record { ground = i.left; on = i.on_left; known = kn; ready = u.ready.0; low = low_more K proper root o (held K proper root (ABlock false sc c) here o) w1 (λ x. omega arith) u.low })
+              (λ b x. (let a = m b x in omega (arith, a)))
+              (still_has (λ b x. needed K.codes b x here r) (λ b x. o b x + grip K.codes b x here r) (λ b x. grip_each K.codes b x here more) w w1 (λ b x l. unneeded K proper b x fit ok.0 here i.left (o b x) i.on_left (kn b x) l) (λ b x. (let a = m b x in omega (arith, a))) spares (λ b x l. h b x (omega (arith, l))))
+              (λ z. (st z).0),
+        )
 
     pub all_fine : {t : ℕ} {sc : Scope} {all : Instances} → AllFit K t sc all → (o : Body → ℕ → ℕ) (w : World) (here : Body) → Low K proper root o w → Most o (λ b x. grip_all K.codes b x all) → Has (λ b x. needed_all K.codes b x all) w
         → (is_trail sc.place ≡ true → all_seats (SeatSet K proper root) all here) → instances_read all w
@@ -227,8 +231,9 @@ module _ (K : Kernel) (proper : is_proper K ≡ true) (root : Residual) where
         let w1 = instances_aborted more w in
         let spares : Spares (λ b x. grip_all K.codes b x more) w w1 = λ b x l j. all_spared K.codes b x more w l j in
         let h1 = still_has (λ b x. given_needed K.codes b x to code + needed K.codes b x to r) (λ b x. point b x to + given_grip K.codes b x to code + grip K.codes b x to r) (λ b x. grip_all K.codes b x more) w w1
-            (λ b x l. (let a = all_unneeded K proper b x (one_lives {sc = sc} {seat = seat} k p e fit none_lives) (omega (arith, l)) in omega (arith, a))) (λ b x. (let a = m b x in omega (arith, a))) spares (λ b x l. h b x (omega (arith, l))) in
-        (all_fine rest o w here low (λ b x. (let a = m b x in omega (arith, a))) (λ b x l. h b x (omega (arith, l))) (λ z. (st z).2),
-            tree_fine fit (code_static K seat.code k proper e) to (with_code to code o) w1 (code_named seat.code k e (st p).0)
-            (code_env seat.code k to code o w1 e e (low_kept K proper root o w w1 (λ b x l j. spares b x (let a = m b x in omega (arith, a, l)) j) low) (λ b x l. h1 b x (omega (arith, l))))
-            (λ b x. (let a = m b x in omega (arith, a))) (λ b x l. h1 b x (omega (arith, l))) (λ z. (st p).1))
+        (λ b x l. (let a = all_unneeded K proper b x (one_lives {sc = sc} {seat = seat} k p e fit none_lives) (omega (arith, l)) in omega (arith, a))) (λ b x. (let a = m b x in omega (arith, a))) spares (λ b x l. h b x (omega (arith, l))) in (
+          all_fine rest o w here low (λ b x. (let a = m b x in omega (arith, a))) (λ b x l. h b x (omega (arith, l))) (λ z. (st z).2),
+          tree_fine fit (code_static K seat.code k proper e) to (with_code to code o) w1 (code_named seat.code k e (st p).0)
+              (code_env seat.code k to code o w1 e e (low_kept K proper root o w w1 (λ b x l j. spares b x (let a = m b x in omega (arith, a, l)) j) low) (λ b x l. h1 b x (omega (arith, l))))
+              (λ b x. (let a = m b x in omega (arith, a))) (λ b x l. h1 b x (omega (arith, l))) (λ z. (st p).1),
+        )

@@ -1,6 +1,5 @@
 -- What the parts around a leaf close and abort reads no variable without a value.
-use Rattle.std.proofs.Common.{◌≡◌, refl, sym, ap, ◌∙◌, subst, ◌≤◌, ◌<◌, ℕ, ◌+◌, Bool, true, false, if◌then◌else◌, ◌==◌, ◌⊎◌, inl, inr, List, [], ◌∷◌, ◌++◌, arith}
-use Rattle.std.proofs.lemmas.Bool.{cases_lt, false≢true}
+use Rattle.std.proofs.Common.{◌≡◌, refl, sym, subst, ℕ, ◌+◌, Bool, true, false, ◌==◌, List, [], ◌∷◌, ◌++◌, arith}
 use Rattle.ceu_tree.specs.declared.kernel.Kernel.{Kernel}
 use Rattle.ceu_tree.specs.declared.kernel.ParKind.{ParKind}
 use Rattle.ceu_tree.specs.declared.kernel.ParKind.TheVariants as par
@@ -9,17 +8,15 @@ use Rattle.ceu_tree.specs.declared.kernel.KBlock.{KBlock, out-KBlock}
 use Rattle.ceu_tree.specs.declared.kernel.KStmt.{out-KStmt}
 use Rattle.ceu_tree.specs.declared.kernel.KStmt.TheOpen.{KStmt-F}
 use Rattle.ceu_tree.specs.Residual.{Body, Act, Residual, Over, Branches, branch, Instances}
-use Rattle.ceu_tree.specs.Focus.{Frame, OfBlock, OfInstance, OfOpen, OfLoop, OfCall, OfPar, Focus, Here, In, join, fill, plug, body_in}
+use Rattle.ceu_tree.specs.Focus.{Frame, OfBlock, OfOpen, OfLoop, OfPar, Focus, Here, In, join, fill, plug, body_in}
 use Rattle.ceu_tree.specs.World.{World}
-use Rattle.ceu_tree.specs.Abort.{aborted, branches_aborted, instances_aborted}
+use Rattle.ceu_tree.specs.Abort.{aborted, branches_aborted}
 use Rattle.ceu_tree.specs.Leaf.{Exit}
-use Rattle.ceu_tree.specs.Around.{Outcome, Goes, Rests, Raises, Fails, Past, Registers, AtBlockEnd, AtLoopHead, Ends, Leaves, kind_of, up}
+use Rattle.ceu_tree.specs.Around.{Outcome, AtBlockEnd, Ends, Leaves, kind_of, up}
 use Rattle.ceu_tree.specs.Legal.{Seated, before}
 use Rattle.ceu_tree.specs.Proper.{is_proper}
-use Rattle.ceu_legal.specs.Shape.{Part, ABlock, AStatement, AnEnd, FrameFits, around_statement, around_end, around_instance, around_part, around_turn, around_call, around_branch, Around, nothing_around, one_around}
-use Rattle.ceu_legal.proofs.Static.{BlockOk, names_of}
+use Rattle.ceu_legal.specs.Shape.{Part, FrameFits, around_statement, around_end, around_branch, Around, nothing_around, one_around}
 use Rattle.ceu_legal.proofs.UpFits.{Sound, frame_sound, layer_of}
-use Rattle.ceu_values.specs.Ground.{has}
 use Rattle.ceu_values.proofs.Positions.{before_at}
 use Rattle.ceu_held.proofs.Seats.{frame_seats, focus_seats}
 use Rattle.ceu_counters.specs.Counters.{is_first, at_loop}
@@ -27,11 +24,11 @@ use Rattle.ceu_ready.specs.Needed.{needed_each, frame_needed, focus_needed}
 use Rattle.ceu_ready.proofs.Grips.{grip_each, grip_all, frame_grip, focus_grip}
 use Rattle.ceu_ready.proofs.Settled.{each_unneeded, frame_unneeded, focus_unneeded}
 use Rattle.ceu_ready.proofs.Aborts.{each_spared, all_spared, focus_spared}
-use Rattle.ceu_closing.specs.Closing.{aborted_reads, branches_read, closed_reads, left_reads, body_left_reads, rejoined_reads, through_reads, up_reads}
-use Rattle.ceu_closing.proofs.Registered.{SetBefore, set_before}
-use Rattle.ceu_closing.proofs.Envs.{SeatSet, Named, held, Env, low_kept, env_kept, each_named, envs_kept}
-use Rattle.ceu_closing.proofs.Trees.{Most, Has, Spares, with_decls, closed_fine, block_fine, done_has, still_has, branches_fine, all_fine}
-use Rattle.ceu_closing.proofs.Frames.{branches_join, list_end, inner_hold, hold_less, held_less, Names, frame_names, envs_front, envs_back, back_of, frame_env}
+use Rattle.ceu_closing.specs.Closing.{aborted_reads, closed_reads, left_reads, body_left_reads, rejoined_reads, through_reads, up_reads}
+use Rattle.ceu_closing.proofs.Registered.{set_before}
+use Rattle.ceu_closing.proofs.Envs.{SeatSet, Env, env_kept, each_named, envs_kept}
+use Rattle.ceu_closing.proofs.Trees.{Most, Has, Spares, with_decls, closed_fine, done_has, still_has, branches_fine, all_fine}
+use Rattle.ceu_closing.proofs.Frames.{list_end, inner_hold, hold_less, held_less, Names, frame_names, envs_front, envs_back, back_of, frame_env}
 use Rattle.ceu_closing.proofs.Within.{each_parts, ended_has, beside_read, frame_abort}
 use Rattle.ceu_closing.proofs.Fates.{Fate, up_fate, up_kept}
 
@@ -123,7 +120,7 @@ module _ (K : Kernel) (proper : is_proper K ≡ true) (root : Residual) where
         let before = envs_front K proper root sc s k slot bs c cs here o w e p.env in
         let behind = branches_fine K proper root z fine.1 here o w (each_named K proper root sc s k slot (bs ++ c ∷ cs) e (bs ++ c ∷ []) cs [] (back_of K proper root bs c cs) p.names.running) after (λ b x. (let a = p.most b x in omega (arith, a))) (λ b x i. p.has b x (omega (arith, i))) (λ i. p.seats.1) in
         let ahead = branches_fine K proper root y fine.0 here o w1 (each_named K proper root sc s k slot (bs ++ c ∷ cs) e [] bs (c ∷ cs) refl p.names.running) (envs_kept K proper root sc bs here o w w1 (λ b x i j. spares1 b x (let a = p.most b x in omega (arith, a, i)) j) before) (λ b x. (let a = p.most b x in omega (arith, a)))
-            (still_has K proper root (λ b x. needed_each K.codes b x here front) (λ b x. o b x + grip_each K.codes b x here front) (λ b x. grip_each K.codes b x here back) w w1 (λ b x. each_unneeded K proper b x y fine.0 here before.ground (o b x) before.on (before.known b x)) (λ b x. (let a = p.most b x in omega (arith, a))) spares1 (λ b x i. p.has b x (omega (arith, i)))) (λ i. p.seats.0) in
+        (still_has K proper root (λ b x. needed_each K.codes b x here front) (λ b x. o b x + grip_each K.codes b x here front) (λ b x. grip_each K.codes b x here back) w w1 (λ b x. each_unneeded K proper b x y fine.0 here before.ground (o b x) before.on (before.known b x)) (λ b x. (let a = p.most b x in omega (arith, a))) spares1 (λ b x i. p.has b x (omega (arith, i)))) (λ i. p.seats.0) in
         beside_read K proper root front Over back here w behind tt ahead
 
     -- with what the whole focus comes to, where an exit is handed on
@@ -146,16 +143,17 @@ module _ (K : Kernel) (proper : is_proper K ≡ true) (root : Residual) where
       let inner = frame_sound K proper a ok in
       let env = frame_env K proper root a ok false here o w v h.0 refl in
       let u = up (body_in fr here) (In gr g) y w in
-      let spares : Spares K proper root (λ b x. focus_grip K.codes b x (body_in fr here) (In gr g)) w u.world = λ b x l k. up_kept K.codes b x (body_in fr here) (In gr g) y w l k in
-      (up_fine g a2 more inner (body_in fr here) (inner_hold K proper root fr here o) (frame_names K proper root a2 inner (body_in fr here) sf.0 n.inner) y w fate env (grips_inner fr gr g here o m) (needs_inner gr g (body_in fr here) w h.1) sf.0 sf.1,
-          through_fine t here o (In gr g) fr u.outcome u.world a
-          (record {
-            sound = ok;
-            names = n;
-            env = env_kept K proper root d here o w u.world (λ b x l k. spares b x (let i = m b x in let j = held_less K proper root a here o b x in omega (arith, i, j, l)) k) v;
-            most = m;
-            has = still_has K proper root (λ b x. frame_needed K.codes b x false here fr) (λ b x. o b x + frame_grip K.codes b x here fr) (λ b x. focus_grip K.codes b x (body_in fr here) (In gr g)) w u.world
-                (λ b x. frame_unneeded K proper b x a ok false here v.ground (o b x) v.on (v.known b x)) (λ b x. (let i = m b x in omega (arith, i))) spares h.0;
-            seats = st;
-          })
-          (λ node z e. subst (λ u. aborted_reads (fill fr (plug (In gr g) Over)) here u) (sym (subst (λ y. Fate (In gr g) w y u.world) e (up_fate (body_in fr here) (In gr g) y w fate))) (focus_abort (In gr g) a (one_around a2 more) ok here o n w v m h st sf)))
+      let spares : Spares K proper root (λ b x. focus_grip K.codes b x (body_in fr here) (In gr g)) w u.world = λ b x l k. up_kept K.codes b x (body_in fr here) (In gr g) y w l k in (
+        up_fine g a2 more inner (body_in fr here) (inner_hold K proper root fr here o) (frame_names K proper root a2 inner (body_in fr here) sf.0 n.inner) y w fate env (grips_inner fr gr g here o m) (needs_inner gr g (body_in fr here) w h.1) sf.0 sf.1,
+        through_fine t here o (In gr g) fr u.outcome u.world a
+            (record {
+              sound = ok;
+              names = n;
+              env = env_kept K proper root d here o w u.world (λ b x l k. spares b x (let i = m b x in let j = held_less K proper root a here o b x in omega (arith, i, j, l)) k) v;
+              most = m;
+              has = still_has K proper root (λ b x. frame_needed K.codes b x false here fr) (λ b x. o b x + frame_grip K.codes b x here fr) (λ b x. focus_grip K.codes b x (body_in fr here) (In gr g)) w u.world
+                  (λ b x. frame_unneeded K proper b x a ok false here v.ground (o b x) v.on (v.known b x)) (λ b x. (let i = m b x in omega (arith, i))) spares h.0;
+              seats = st;
+            })
+            (λ node z e. subst (λ u. aborted_reads (fill fr (plug (In gr g) Over)) here u) (sym (subst (λ y. Fate (In gr g) w y u.world) e (up_fate (body_in fr here) (In gr g) y w fate))) (focus_abort (In gr g) a (one_around a2 more) ok here o n w v m h st sf)),
+      )

@@ -1,6 +1,5 @@
 -- The whole program: an abortion, what the parts around a leaf close and abort, and a kill read no variable without a value.
-use Rattle.std.proofs.Common.{◌≡◌, refl, sym, ap, ◌∙◌, subst, ◌≤◌, ◌<◌, ℕ, zero, suc, ◌+◌, Bool, true, false, ◌==◌, ◌&&◌, ◌||◌, ◌⊎◌, inl, inr, List, [], ◌∷◌, ◌++◌, None, arith}
-use Rattle.std.specs.List.{list_all}
+use Rattle.std.proofs.Common.{◌≡◌, refl, sym, subst, ℕ, Bool, true, false, ◌==◌, ◌&&◌, ◌⊎◌, inl, inr, List, [], ◌∷◌, ◌++◌, None, arith}
 use Rattle.std.proofs.lemmas.Bool.{and_parts, and_from, or_cases, false≢true}
 use Rattle.ceu_base.specs.declared.kinds.Ty.TheVariants as ty
 use Rattle.ceu_tree.specs.declared.kernel.Kernel.{Kernel}
@@ -8,37 +7,34 @@ use Rattle.ceu_tree.specs.declared.kernel.KDecl.{KDecl}
 use Rattle.ceu_tree.specs.declared.kernel.KKind.{KKind}
 use Rattle.ceu_tree.specs.declared.kernel.KKind.TheVariants as kind
 use Rattle.ceu_tree.specs.declared.kernel.KNode.{KNode}
-use Rattle.ceu_tree.specs.declared.kernel.KBlock.{KBlock, out-KBlock}
-use Rattle.ceu_tree.specs.Residual.{Body, Program, Act, AtEnd, Residual, Over, Block, no_instance}
-use Rattle.ceu_tree.specs.Focus.{Frame, OfBlock, OfInstance, OfOpen, OfLoop, OfCall, OfPar, Focus, Here, In, fill, plug}
+use Rattle.ceu_tree.specs.declared.kernel.KBlock.{out-KBlock}
+use Rattle.ceu_tree.specs.Residual.{Body, Program, Act, AtEnd, Residual, Over, no_instance}
+use Rattle.ceu_tree.specs.Focus.{Frame, OfBlock, Focus, Here, In, fill, plug}
 use Rattle.ceu_tree.specs.World.{World}
-use Rattle.ceu_tree.specs.Abort.{aborted}
 use Rattle.ceu_tree.specs.Around.{Outcome}
-use Rattle.ceu_tree.specs.Step.{unseat_frame, unseat}
-use Rattle.ceu_tree.specs.Legal.{Seated, before, is_set, is_program_variable, program_done, outer_set, finalizers_of, seats}
+use Rattle.ceu_tree.specs.Step.{unseat}
+use Rattle.ceu_tree.specs.Legal.{Seated, before, is_set, is_program_variable, program_done, finalizers_of, seats}
 use Rattle.ceu_tree.specs.Mentions.{body_target, is_set_decl}
 use Rattle.ceu_tree.specs.Proper.{Scope, body_scope, is_proper}
-use Rattle.ceu_legal.specs.Shape.{Part, AStatement, block_scope, program_part, Fits, to_begin, in_list, AllFit, none_lives, FrameFits, around_statement, around_end, around_instance, Around, nothing_around, one_around}
+use Rattle.ceu_legal.specs.Shape.{Part, AStatement, block_scope, program_part, Fits, to_begin, in_list, none_lives, FrameFits, around_statement, around_end, around_instance, Around, nothing_around, one_around}
 use Rattle.ceu_legal.proofs.UpFits.{list_sound}
 use Rattle.ceu_legal.proofs.RunFits.{root_sound}
-use Rattle.ceu_values.specs.Ground.{has}
 use Rattle.ceu_values.specs.Needed.{some_done}
 use Rattle.ceu_values.specs.Ready.{declares}
-use Rattle.ceu_values.proofs.Grounds.{program_ground, list_ground}
-use Rattle.ceu_values.proofs.Positions.{before_at}
+use Rattle.ceu_values.proofs.Grounds.{program_ground}
 use Rattle.ceu_values.proofs.Readies.{ready_program}
 use Rattle.ceu_values.proofs.Stores.{or_left, or_right}
 use Rattle.ceu_held.proofs.Seats.{each_seat, frame_seats, focus_seats}
 use Rattle.ceu_counters.specs.Counters.{is_first, at_loop}
 use Rattle.ceu_counters.proofs.Grips.{point}
 use Rattle.ceu_ready.specs.Needed.{own_target, block_asks, asked, needed, frame_needed, focus_needed}
-use Rattle.ceu_ready.proofs.Grips.{slots_grip, grip, frame_grip, focus_grip}
+use Rattle.ceu_ready.proofs.Grips.{grip, focus_grip}
 use Rattle.ceu_ready.proofs.Places.{declared_held, known_program, root_ground}
 use Rattle.ceu_ready.proofs.Settled.{asked_yes, unneeded}
 use Rattle.ceu_ready.proofs.Aborts.{aborted_spared}
 use Rattle.ceu_ready.proofs.Outer.{outer_down}
 use Rattle.ceu_closing.specs.Closing.{aborted_reads, up_reads, killed_reads}
-use Rattle.ceu_closing.proofs.Envs.{Variable, IsSet, SeatSet, Named, Env}
+use Rattle.ceu_closing.proofs.Envs.{SeatSet, Named, Env}
 use Rattle.ceu_closing.proofs.Trees.{Most, Has, code_named, tree_fine}
 use Rattle.ceu_closing.proofs.Frames.{inner_hold, hold_less, Names, frame_env}
 use Rattle.ceu_closing.proofs.Within.{frame_abort}
@@ -89,10 +85,11 @@ module _ (K : Kernel) (proper : is_proper K ≡ true) (root : Residual) where
     on = program_ground K proper;
     known = λ b x. known_program K proper b x (point b x Program) (omega arith);
     ready = ready_program K Program w;
-    low = λ x v s. (let d = variable_declared x (out-KBlock K.body).decls v in
-        (declared_held K proper Program x Program (out-KBlock K.body).decls (point Program x Program) (omega arith) refl d,
-            h Program x (asked_yes K Program x Program (block_asks K.body (before (out-KBlock K.body).list rest) x) refl
-            (or_left (declares x (out-KBlock K.body).decls && is_set (before (out-KBlock K.body).list rest) x) (own_target x (body_target K.body) && some_done (before (out-KBlock K.body).list rest)) (and_from (declares x (out-KBlock K.body).decls) (is_set (before (out-KBlock K.body).list rest) x) d (subst (λ l. is_set l x ≡ true) q s))))));
+    low = λ x v s. (let d = variable_declared x (out-KBlock K.body).decls v in (
+      declared_held K proper Program x Program (out-KBlock K.body).decls (point Program x Program) (omega arith) refl d,
+      h Program x (asked_yes K Program x Program (block_asks K.body (before (out-KBlock K.body).list rest) x) refl
+          (or_left (declares x (out-KBlock K.body).decls && is_set (before (out-KBlock K.body).list rest) x) (own_target x (body_target K.body) && some_done (before (out-KBlock K.body).list rest)) (and_from (declares x (out-KBlock K.body).decls) (is_set (before (out-KBlock K.body).list rest) x) d (subst (λ l. is_set l x ≡ true) q s)))),
+    ));
   }
 
   root_env : {t : ℕ} {fr : Frame} {c : Part} → FrameFits K t fr (program_part K) c → (q : Residual) → program_done K.body root ≡ program_done K.body (fill fr q) → (first : Bool) (w : World) → Has K proper root (λ b x. frame_needed K.codes b x first Program fr) w
