@@ -6,6 +6,9 @@ pub mod Within
 pub mod Fates
 pub mod Up
 pub mod Kills
+pub mod Does
+pub mod Apart
+pub mod Serves
 pub mod Whole
 pub mod Steps
 pub mod Runs

@@ -41,9 +41,10 @@ use Rattle.ceu_ready.proofs.Bounds.{grip_within, around_within}
 use Rattle.ceu_ready.proofs.Settled.{focus_unneeded}
 use Rattle.ceu_ready.proofs.Aborts.{killed_spared}
 use Rattle.ceu_ready.proofs.Leaf.{alias_keeps, acted_fine}
-use Rattle.ceu_closing.specs.Closing.{aborted_reads, up_reads, spawned_reads, does_reads, step_reads}
+use Rattle.ceu_closing.specs.Closing.{aborted_reads, up_reads, killed_reads, spawned_reads, does_reads, step_reads}
 use Rattle.ceu_closing.specs.Laws.{Closes}
 use Rattle.ceu_closing.proofs.Envs.{SeatSet}
+use Rattle.ceu_closing.proofs.Does.{does_fine, does_aborts}
 use Rattle.ceu_closing.proofs.Fates.{Fate, answered_fate}
 use Rattle.ceu_closing.proofs.Whole.{root_abort, root_up, root_kill, tree_abort, same_plugged, same_unseated}
 
@@ -104,73 +105,11 @@ module _ (K : Kernel) (proper : is_proper K ≡ true) where
     abort_killed k w own =
         root_abort K proper (plug f Over) (unseat k f) (unseated_around K proper (suc n) k t.around) (same_unseated K proper k f t.around) (killed k f w) (unseat_most k) (unseat_own k w own) (unseat_seats (SeatSet K proper (plug f Over)) k f Program st)
 
-    empty : (alias : Option ℕ) → World → World
-    empty alias w = marked mark.Full (set_alias body alias NotSet w)
+    kill_of : (k : ℕ) (w : World) → Own w → killed_reads k f w
+    kill_of k w own = root_kill K proper (plug f Over) f t.around (same_plugged K proper f t.around) w most own st k
 
-    spawned_fine : (o : Option ℕ) (alias : Option ℕ) (w : World) → Own w → spawned_reads o Program body f alias w
-    spawned_fine None alias w own = up_reads_of (marked mark.Full (set_alias body alias NotSet w)) (λ b x l. alias_keeps b x body alias NotSet w (own b x l)) Past (λ a. tt)
-    spawned_fine (Some place) alias w own = tt
-
-    does_fine : (y : Does) (w : World) → Own w → does_reads Program body f y w
-    does_fine does.Passes w own = up_reads_of w own Past (λ a. tt)
-    does_fine (does.Leaves node z) w own = up_reads_of w own (Leaves node z) (λ a. refl)
-    does_fine (does.Registers s) w own = up_reads_of w own (Registers s) (λ a. tt)
-    does_fine does.Ends w own = up_reads_of w own AtBlockEnd (λ a. tt)
-    does_fine does.Heads w own = up_reads_of w own AtLoopHead (λ a. (refl, refl))
-    does_fine (does.Spawns s c code pool alias vs) w own = spawned_fine (free_place pool f) alias w own
-    does_fine (does.Kills k) w own = (root_kill K proper (plug f Over) f t.around (same_plugged K proper f t.around) w most own st k, up_killed k w own)
-    does_fine (does.Opens x) w own = tt
-    does_fine (does.Waits r) w own = tt
-    does_fine (does.Emits s event v) w own = tt
-    does_fine (does.Fails z) w own = tt
-
-    -- ---- a fault
-
-    abbrev Aborts : Moved → Type 0
-    Aborts m = (z : Fault × Pos) (r : Residual) → m.outcome ≡ Fails z r → aborted_reads r Program m.world
-
-    left_of_it : (z y : Fault × Pos) (q r : Residual) → ◌≡◌ {A = Outcome} (Fails y q) (Fails z r) → q ≡ r
-    left_of_it z y q r e = ap (λ o. elim o [ Fails i l ↦ l | _ ↦ q ]) e
-
-    answered_aborts : (g : Focus Act) (y : Outcome) (w : World) → ((a : Act) → Fate (Here a) w y w) → aborted_reads (plug g Over) Program w → Aborts (answered Program g y w)
-    answered_aborts g y w fate h z r e =
-        let m = answered Program g y w in
-        let k : Fate g w (Fails z r) m.world = subst (λ o. Fate g w o m.world) e (answered_fate Program g y w fate) in
-        subst (λ q. aborted_reads q Program m.world) (sym k.1) (subst (λ u. aborted_reads (plug g Over) Program u) (sym k.0) h)
-
-    fails_aborts : (y : Fault × Pos) (w : World) → Own w → Aborts (moved (Fails y (plug f Over)) w)
-    fails_aborts y w own z r e = subst (λ q. aborted_reads q Program w) (left_of_it z y (plug f Over) r e) (abort_of w own)
-
-    spawned_aborts : (s : KNode) (c : KCode) (code pool place : ℕ) (alias : Option ℕ) (vs : List ℤ) (w : World) → Own w → Aborts (spawned_at n body f s c code pool place alias vs w)
-    spawned_aborts s c code pool place alias vs w own = go (w.given == 4294967295)
-      where
-        number : ℕ
-        number = w.given + 1
-
-        go : (b : Bool)
-            → Aborts (if b then moved (Fails (SpawnCount, s.pos) (plug f Over)) w else moved (Raises (plug (seated (record { pool = pool; place = place; code = code; number = w.given + 1 }) (Run (n + 1) (Begin c.body)) f) (Run n (Finish s (pos 0))))) (marked (mark.Push (n + 1)) (marked (mark.Spawned (w.given + 1)) (set_parameters (InstanceBody (w.given + 1)) c.params vs (set_alias body alias (Names (w.given + 1)) (record w { given = w.given + 1; living = (w.given + 1) ∷ w.living }))))))
-        go true = fails_aborts (SpawnCount, s.pos) w own
-        go false = λ z r e. absurd (cc)
-
-    does_aborts : (y : Does) (w : World) → Own w → Aborts (does_in K n Program body f y w)
-    does_aborts (does.Opens x) w own = λ z r e. absurd (cc)
-    does_aborts (does.Waits q) w own = λ z r e. absurd (cc)
-    does_aborts (does.Emits s event v) w own = λ z r e. absurd (cc)
-    does_aborts does.Passes w own = answered_aborts f Past w (λ a. tt) (abort_of w own)
-    does_aborts (does.Leaves node x) w own = answered_aborts f (Leaves node x) w (λ a. refl) (abort_of w own)
-    does_aborts (does.Registers s) w own = answered_aborts f (Registers s) w (λ a. tt) (abort_of w own)
-    does_aborts does.Ends w own = answered_aborts f AtBlockEnd w (λ a. tt) (abort_of w own)
-    does_aborts does.Heads w own = answered_aborts f AtLoopHead w (λ a. (refl, refl)) (abort_of w own)
-    does_aborts (does.Spawns s c code pool alias vs) w own = go (free_place pool f)
-      where
-        go : (o : Option ℕ) → Aborts (elim o [
-          | None ↦ answered Program f Past (marked mark.Full (set_alias body alias NotSet w))
-          | Some place ↦ spawned_at n body f s c code pool place alias vs w
-        ])
-        go None = answered_aborts f Past (marked mark.Full (set_alias body alias NotSet w)) (λ a. tt) (abort_of (marked mark.Full (set_alias body alias NotSet w)) (λ b x l. alias_keeps b x body alias NotSet w (own b x l)))
-        go (Some place) = spawned_aborts s c code pool place alias vs w own
-    does_aborts (does.Kills k) w own = answered_aborts (unseat k f) Past (killed k f w) (λ a. tt) (abort_killed k w own)
-    does_aborts (does.Fails y) w own = fails_aborts y w own
+    alias_own : (alias : Option ℕ) (w : World) → Own w → Own (marked mark.Full (set_alias body alias NotSet w))
+    alias_own alias w own b x l = alias_keeps b x body alias NotSet w (own b x l)
 
     -- what the leaf does keeps the values
     acted_own : (w : World) → ((b : Body) (x : ℕ) → 1 ≤ focus_needed K.codes b x is_first Program f + act_needed K.codes b x body (leaf f) → has b x w ≡ true) → Own (acted K n body (leaf f) w).world
@@ -183,7 +122,10 @@ module _ (K : Kernel) (proper : is_proper K ≡ true) where
     unfolding step_reads stepped
     step_fine w own =
         let d = acted K n body (leaf f) w in
-        record { step = does_fine d.does d.world (acted_own w own); fault = does_aborts d.does d.world (acted_own w own) }
+        record {
+          step = does_fine K n Program f Own alias_own (λ r u. aborted_reads r Program u) up_reads_of abort_of kill_of up_killed abort_killed d.does d.world (acted_own w own);
+          fault = does_aborts K n Program f Own alias_own (λ r u. aborted_reads r Program u) up_reads_of abort_of kill_of up_killed abort_killed d.does d.world (acted_own w own);
+        }
 
   pub step_closes : (n : ℕ) (f : Focus Act) (w : World) → ConfigFits K (Turning n f w) → Counts (λ p. live_focus p f) w → Stocked K (Turning n f w) → OuterStands K (Turning n f w) → Closes K n f w
   step_closes n f w t h own outer = step_fine n f t (turn_most n f w t h) (unplug_seats _ f Over Program (listed _ (plug f Over) Program outer)).0 w own

@@ -74,7 +74,7 @@ module _ (K : Kernel) (proper : is_proper K ≡ true) (root : Residual) where
       subst (λ l. is_set l x ≡ true) (sym q)
       (outer_down K proper x {t = 0} (In (OfBlock K.body (finalizers_of [] front) no_instance rest) (Here AtEnd)) (AStatement (block_scope (top K) K.body) s) (one_around (around_statement front e refl none_lives) nothing_around) v refl m)
 
-  root_names : {t : ℕ} {fr : Frame} {c : Part} → FrameFits K t fr (program_part K) c → (q : Residual) → program_done K.body root ≡ program_done K.body (fill fr q) → frame_seats P fr Program → Names K proper root fr (program_part K) c
+  pub root_names : {t : ℕ} {fr : Frame} {c : Part} → FrameFits K t fr (program_part K) c → (q : Residual) → program_done K.body root ≡ program_done K.body (fill fr q) → frame_seats P fr Program → Names K proper root fr (program_part K) c
   root_names (around_statement {rest = rest} {s = s} done e f all) q z st = record { in_code = λ y. absurd (false≢true y); running = λ front r i. top_named front r rest z i; inner = top_named done s rest z e }
   root_names (around_end f all) q z st = record { in_code = λ y. absurd (false≢true y); running = λ front r i. top_named front r [] z i; inner = λ x v m. absurd (omega (arith, m)) }
   root_names (around_instance {rest = rest} {seat = seat} done k e f r u v p i) q z st = record { in_code = λ y. absurd (false≢true y); running = λ front s i. top_named front s rest z i; inner = code_named K proper root seat.code k i st.1 }
@@ -92,7 +92,7 @@ module _ (K : Kernel) (proper : is_proper K ≡ true) (root : Residual) where
     ));
   }
 
-  root_env : {t : ℕ} {fr : Frame} {c : Part} → FrameFits K t fr (program_part K) c → (q : Residual) → program_done K.body root ≡ program_done K.body (fill fr q) → (first : Bool) (w : World) → Has K proper root (λ b x. frame_needed K.codes b x first Program fr) w
+  pub root_env : {t : ℕ} {fr : Frame} {c : Part} → FrameFits K t fr (program_part K) c → (q : Residual) → program_done K.body root ≡ program_done K.body (fill fr q) → (first : Bool) (w : World) → Has K proper root (λ b x. frame_needed K.codes b x first Program fr) w
       → Env K proper root (program_part K) Program around w
   root_env (around_statement {rest = rest} done e f all) q z first w h = env_at rest w z (λ b x l. h b x (omega (arith, l)))
   root_env (around_end f all) q z first w h = env_at [] w z (λ b x l. h b x (omega (arith, l)))

@@ -1,6 +1,6 @@
 -- What the finalizers read that run where a block ends, where a part is aborted, in a step and after a fault: each variable that the expressions of their
 -- statements name, of the own body or by `outer` one of the program's, has a value where the statement runs (this project's own).
-use Rattle.std.specs.Prelude.{◌≡◌, ℕ, Bool, true, false, ◌==◌, ◌&&◌, List, [], ◌∷◌, Option, Some, None}
+use Rattle.std.specs.Prelude.{◌≡◌, ℕ, zero, suc, Bool, true, false, ◌==◌, ◌&&◌, List, [], ◌∷◌, Option, Some, None}
 use Rattle.ceu_base.specs.declared.kinds.Mark.TheVariants as mark
 use Rattle.ceu_tree.specs.declared.kernel.Kernel.{Kernel}
 use Rattle.ceu_tree.specs.declared.kernel.ParKind.{ParKind}
@@ -11,14 +11,16 @@ use Rattle.ceu_tree.specs.declared.kernel.KExpNode.{KExpNode, Row_of-KExp, end_o
 use Rattle.ceu_tree.specs.declared.kernel.KNode.{KNode}
 use Rattle.ceu_tree.specs.declared.kernel.KBlock.{out-KBlock}
 use Rattle.ceu_tree.specs.declared.kernel.KStmt.{KStmt, Assign, Out, out-KStmt}
-use Rattle.ceu_tree.specs.Residual.{Body, Awaited, Spawned, Act, Residual, Over, InAsync, Block, Open, Loop, Call, Par, Branches, no_branch, branch, Instances, no_instance, instance}
-use Rattle.ceu_tree.specs.Focus.{Frame, OfBlock, OfOpen, OfLoop, OfPar, Focus, Here, In, join, plug, leaf, body_in, body_of}
+use Rattle.ceu_tree.specs.Residual.{Body, Awaited, Spawned, Act, Residual, Over, Program, InAsync, Block, Open, Loop, Call, Par, Branches, no_branch, branch, Instances, no_instance, instance}
+use Rattle.ceu_tree.specs.Focus.{Frame, OfBlock, OfOpen, OfLoop, OfPar, Focus, Here, In, join, plug, leaf, body_in, body_of, choose}
 use Rattle.ceu_tree.specs.World.{World, NotSet, marked, place_of, set_alias}
 use Rattle.ceu_tree.specs.Abort.{simple, unless_fault, finalizer_list, runs_one, aborted, branches_aborted, instances_aborted}
+use Rattle.ceu_tree.specs.Wake.{each_leaf, runs_at, Unserved, unserved, new_round}
 use Rattle.ceu_tree.specs.Leaf as does
 use Rattle.ceu_tree.specs.Leaf.{Does, acted}
-use Rattle.ceu_tree.specs.Around.{Outcome, Past, Registers, AtBlockEnd, AtLoopHead, Ends, Leaves, kind_of, up}
-use Rattle.ceu_tree.specs.Step.{free_place, unseat, kill_frame, killed}
+use Rattle.ceu_tree.specs.Around.{Outcome, Goes, Fails, Past, Registers, AtBlockEnd, AtLoopHead, Ends, Leaves, kind_of, up}
+use Rattle.ceu_tree.specs.Step.{free_place, unseat, kill_frame, killed, stepped}
+use Rattle.ceu_tree.specs.Run.{is_again}
 use Rattle.ceu_values.specs.Ground.{has}
 
 -- ---- expressions
@@ -151,3 +153,28 @@ does_reads root body f d w = Unit {0}
 
 unfoldable pub step_reads : Kernel → (level : ℕ) → (root : Body) → Focus Act → World → Type 0
 step_reads K n root f w = let body = body_of f root in let d = acted K n body (leaf f) w in does_reads root body f d.does d.world
+
+-- ---- an idle turn: each step of the trail of the async that is served, and after a fault the abortion of all that is left; g is what is around the async
+
+unfoldable pub serve_reads : Kernel → ℕ → Focus Unserved → Focus Act → World → Type 0
+serve_reads K zero g f w = Unit {0}
+serve_reads K (suc n) g f w =
+    let m = stepped K 0 (body_of g Program) f w in
+    step_reads K 0 (body_of g Program) f w ×
+    elim m.outcome [
+      | Goes h ↦ if_reads (is_again (leaf h)) (Unit {0}) (serve_reads K n g h m.world)
+      | Fails e r ↦ aborted_reads (plug g (InAsync (leaf g).stmt true r)) Program m.world
+      | _ ↦ Unit {0}
+    ]
+
+abbrev pub first_reads : Kernel → ℕ → Focus Unserved → Option (Focus Act) → World → Type 0
+first_reads K n g None w = Unit {0}
+first_reads K n g (Some f) w = serve_reads K n g f w
+
+abbrev pub served_reads : Kernel → ℕ → Option (Focus Unserved) → World → Type 0
+served_reads K n None w = Unit {0}
+served_reads K n (Some g) w = first_reads K n g (choose Act (runs_at 0) (leaf g).inner) w
+
+-- where all were served, a new round begins
+abbrev pub idle_reads : Kernel → ℕ → Residual → World → Type 0
+idle_reads K n r w = elim (choose Unserved unserved r) [ Some g ↦ served_reads K n (Some g) w | None ↦ served_reads K n (choose Unserved unserved (each_leaf new_round r)) w ]
