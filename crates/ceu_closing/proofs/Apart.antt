@@ -1,19 +1,17 @@
 -- Asyncs: no instance lives in one, and what is around the leaf of a focus; abortions of a whole with some part in the leaf's place.
-use Rattle.std.proofs.Common.{◌≡◌, refl, sym, ap, ◌∙◌, subst, ◌≤◌, ◌<◌, ℕ, ◌+◌, Bool, true, false, ◌⊎◌, inl, inr, List, ◌∷◌, ◌++◌, arith}
+use Rattle.std.proofs.Common.{◌≡◌, refl, ◌≤◌, ◌<◌, ℕ, ◌+◌, Bool, true, false, ◌⊎◌, inl, inr, ◌∷◌, ◌++◌, arith}
 use Rattle.std.proofs.lemmas.Bool.{cases_lt}
 use Rattle.ceu_tree.specs.declared.kernel.Kernel.{Kernel}
 use Rattle.ceu_tree.specs.declared.kernel.KStmt.TheOpen.{KStmt-F}
 use Rattle.ceu_tree.specs.Residual.{Body, Act, AtEnd, Residual, Over, Instances}
-use Rattle.ceu_tree.specs.Focus.{Frame, OfBlock, OfInstance, OfOpen, OfLoop, OfCall, OfPar, Focus, Here, In, fill, plug, leaf, body_in, body_of}
+use Rattle.ceu_tree.specs.Focus.{Frame, Focus, Here, In, fill, plug, leaf, body_in, body_of}
 use Rattle.ceu_tree.specs.World.{World}
-use Rattle.ceu_tree.specs.Abort.{aborted}
 use Rattle.ceu_tree.specs.Around.{Outcome}
 use Rattle.ceu_tree.specs.Legal.{Seated}
 use Rattle.ceu_tree.specs.Proper.{Scope, is_trail, is_proper}
 use Rattle.ceu_legal.specs.Shape.{Part, in_trail, AllFit, none_lives, one_lives, FrameFits, around_statement, around_end, around_instance, around_part, around_turn, around_call, around_branch, Around, nothing_around, one_around}
 use Rattle.ceu_legal.proofs.UpFits.{Sound, frame_sound, layer_of}
 use Rattle.ceu_legal.proofs.StepFits.{around_trail}
-use Rattle.ceu_values.specs.Ground.{has}
 use Rattle.ceu_held.proofs.Seats.{all_seats, frame_seats, focus_seats}
 use Rattle.ceu_counters.specs.Counters.{is_first, at_loop}
 use Rattle.ceu_ready.specs.Needed.{frame_needed, focus_needed}
@@ -126,9 +124,9 @@ module _ (K : Kernel) (proper : is_proper K ≡ true) (root : Residual) where
           frame_abort K proper root here o false (plug (In gr g) q) (λ b x. focus_needed K.codes b x first to (In gr g) + need b x) (λ b x. grip K.codes b x to (plug (In gr g) q)) a ok n w v (λ b x. (let i = m b x in let j = split b x in omega (arith, i, j))) h st
           (λ b x i. both (focus_needed K.codes b x first to (In gr g)) (need b x) i (k b x) (hq b x))
           (λ b x i. (let j = split b x in let y = focus_unneeded K proper b x first (In gr g) c _ (one_around b0 more) inner to env.ground (p b x) env.on (env.known b x) (omega (arith, i, j)) in
-              let z = un b x (let s = leaf_less (In gr g) to p b x in omega (arith, i, j, s)) in omega (arith, y, z)))
+          let z = un b x (let s = leaf_less (In gr g) to p b x in omega (arith, i, j, s)) in omega (arith, y, z)))
           (λ u env2 j. (let i = needs_of gr g to u (λ b x y. j b x (omega (arith, y))) in
-              leaf_abort g b0 more inner to p (frame_names K proper root b0 inner to sf.0 n.inner) u (env2 refl) l (λ b x. (let y = m b x in let z = hold_less K proper root fr here o b x in omega (arith, y, z))) i.0 i.1 sf.0 sf.1 (λ b x y. j b x (omega (arith, y))) un inside))
+          leaf_abort g b0 more inner to p (frame_names K proper root b0 inner to sf.0 n.inner) u (env2 refl) l (λ b x. (let y = m b x in let z = hold_less K proper root fr here o b x in omega (arith, y, z))) i.0 i.1 sf.0 sf.1 (λ b x y. j b x (omega (arith, y))) un inside))
           (λ u b x i j. aborted_spared K.codes b x (plug (In gr g) q) to u i j)
         where
           both : (i j : ℕ) {T : Type 0} → 1 ≤ i + j → (1 ≤ i → T) → (1 ≤ j → T) → T

@@ -88,4 +88,3 @@ module _ (K : Kernel) (n : ℕ) (at : Body) (f : Focus Act) (Good : World → Ty
       go (Some place) = spawned_aborts s c code pool place alias vs w own
   does_aborts (does.Kills k) w own = answered_aborts (unseat k f) Past (killed k f w) (λ a. tt) (abort_killed k w own)
   does_aborts (does.Fails y) w own = fails_aborts y w own
-

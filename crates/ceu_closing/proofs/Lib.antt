@@ -9,6 +9,7 @@ pub mod Kills
 pub mod Does
 pub mod Apart
 pub mod Serves
+pub mod Idle
 pub mod Whole
 pub mod Steps
 pub mod Runs

@@ -1,11 +1,10 @@
 -- The trail of an async that is served closes and aborts what reads no variable without a value, and so does the abortion of all that is left after a fault.
-use Rattle.std.proofs.Common.{◌≡◌, refl, sym, ap, ◌∙◌, subst, ◌≤◌, ◌<◌, ℕ, zero, suc, ◌+◌, ◌*◌, Bool, true, false, ◌⊎◌, inl, inr, Option, Some, None, arith}
+use Rattle.std.proofs.Common.{◌≡◌, refl, ◌≤◌, ◌<◌, ℕ, zero, suc, ◌+◌, Bool, true, false, ◌⊎◌, inl, inr, Option, arith}
 use Rattle.std.proofs.lemmas.Bool.{cases_lt, false≢true}
 use Rattle.ceu_base.specs.declared.kinds.Mark.TheVariants as mark
 use Rattle.ceu_base.specs.declared.kinds.Pos.{Pos}
 use Rattle.ceu_base.specs.declared.kinds.Fault.{Fault}
 use Rattle.ceu_tree.specs.declared.kernel.Kernel.{Kernel}
-use Rattle.ceu_tree.specs.declared.kernel.KNode.{KNode}
 use Rattle.ceu_tree.specs.declared.kernel.KBlock.{KBlock}
 use Rattle.ceu_tree.specs.declared.kernel.KStmt.{out-KStmt}
 use Rattle.ceu_tree.specs.declared.kernel.KStmt.TheOpen.{KStmt-F}
@@ -20,15 +19,13 @@ use Rattle.ceu_tree.specs.Step.{unseat, killed, stepped}
 use Rattle.ceu_tree.specs.Legal.{Seated}
 use Rattle.ceu_tree.specs.Run.{is_again}
 use Rattle.ceu_tree.specs.Proper.{Scope, is_proper}
-use Rattle.ceu_laws.proofs.FocusBalance.{FoundIn}
-use Rattle.ceu_legal.specs.Shape.{Part, ABlock, AStatement, in_trail, async_scope, program_part, FrameFits, Around, nothing_around, one_around, TurnFits, Comes}
+use Rattle.ceu_legal.specs.Shape.{Part, ABlock, AStatement, in_trail, async_scope, program_part, FrameFits, Around, one_around, TurnFits, Comes}
 use Rattle.ceu_legal.proofs.UpFits.{Sound, layer_of}
 use Rattle.ceu_legal.proofs.StepFits.{Closed, around_sound, around_trail, unseated_around, stepped_fits}
 use Rattle.ceu_legal.proofs.RunFits.{root_sound}
-use Rattle.ceu_values.specs.Ground.{has, Ground}
+use Rattle.ceu_values.specs.Ground.{has}
 use Rattle.ceu_values.proofs.Grounds.{program_ground, inner_ground}
-use Rattle.ceu_held.proofs.Seats.{focus_seats, unseat_seats}
-use Rattle.ceu_living.proofs.Living.{lives}
+use Rattle.ceu_held.proofs.Seats.{focus_seats}
 use Rattle.ceu_living.proofs.Lists.{Counts}
 use Rattle.ceu_living.proofs.Trees.{live_focus}
 use Rattle.ceu_living.proofs.Reactions.{counts_moved}
@@ -236,10 +233,12 @@ module _ (K : Kernel) (proper : is_proper K ≡ true) (fr : Frame) (g : Focus Un
     pub serve_fine : (k : ℕ) (f : Focus Act) (w : World) → TurnFits K 1 part f → Trail f w → Beside w → ((b : Body) (x : ℕ) → 1 ≤ focus_needed K.codes b x is_first at f + act_needed K.codes b x (body_of f at) (leaf f) → has b x w ≡ true) → serve_reads K k whole f w
     unfolding serve_reads
     serve_fine zero f w t h bs own = tt
-    serve_fine (suc k) f w t h bs own =
-        (step.step, go (stepped K 0 at f w).outcome (stepped_fits K proper 0 at f w part closed part_sound t)
-            (counts_moved (λ p. live_focus p f) (λ p. left_whole p (stepped K 0 at f w).outcome) (λ p. live_focus p whole) w u (living_moves K 0 at f w (apart_fine f (acted K 0 (body_of f at) (leaf f) w).does t.around (acted_room K proper 0 (body_of f at) t.part (leaf f) w (around_sound K proper t.around part_sound) t.acts))) h)
-            (λ b x. (moves b x).stocked) (λ z r e. step.fault z r e) (λ y t2 h2 own2. serve_fine k y u t2 h2 next own2))
+    serve_fine (suc k) f w t h bs own = (
+      step.step,
+      go (stepped K 0 at f w).outcome (stepped_fits K proper 0 at f w part closed part_sound t)
+          (counts_moved (λ p. live_focus p f) (λ p. left_whole p (stepped K 0 at f w).outcome) (λ p. live_focus p whole) w u (living_moves K 0 at f w (apart_fine f (acted K 0 (body_of f at) (leaf f) w).does t.around (acted_room K proper 0 (body_of f at) t.part (leaf f) w (around_sound K proper t.around part_sound) t.acts))) h)
+          (λ b x. (moves b x).stocked) (λ z r e. step.fault z r e) (λ y t2 h2 own2. serve_fine k y u t2 h2 next own2),
+    )
       where
         u : World
         u = (stepped K 0 at f w).world

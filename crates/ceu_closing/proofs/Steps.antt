@@ -1,20 +1,14 @@
 -- What a step of a turn closes, aborts and kills reads no variable without a value, nor does the abortion of what is left after a fault.
-use Rattle.std.proofs.Common.{◌≡◌, refl, sym, ap, subst, ◌≤◌, ◌<◌, ℕ, zero, suc, ◌+◌, ℤ, pos, Bool, true, false, if◌then◌else◌, ◌==◌, ◌⊎◌, inl, inr, List, ◌∷◌, Option, Some, None, arith}
+use Rattle.std.proofs.Common.{◌≡◌, refl, ◌≤◌, ◌<◌, ℕ, zero, suc, ◌+◌, true, ◌⊎◌, inl, inr, Option, arith}
 use Rattle.std.proofs.lemmas.Bool.{cases_lt}
-use Rattle.ceu_base.specs.declared.kinds.Pos.{Pos}
-use Rattle.ceu_base.specs.declared.kinds.Fault.{Fault}
-use Rattle.ceu_base.specs.declared.kinds.Fault.TheVariants.{SpawnCount}
 use Rattle.ceu_base.specs.declared.kinds.Mark.TheVariants as mark
 use Rattle.ceu_tree.specs.declared.kernel.Kernel.{Kernel}
-use Rattle.ceu_tree.specs.declared.kernel.KCode.{KCode}
-use Rattle.ceu_tree.specs.declared.kernel.KNode.{KNode}
-use Rattle.ceu_tree.specs.Residual.{Body, Program, Spawned as InstanceBody, Act, Begin, Finish, Residual, Over, Run}
+use Rattle.ceu_tree.specs.Residual.{Body, Program, Act, Residual, Over}
 use Rattle.ceu_tree.specs.Focus.{Focus, Here, plug, leaf, body_of}
-use Rattle.ceu_tree.specs.World.{World, NotSet, Names, marked, set_alias, set_parameters}
-use Rattle.ceu_tree.specs.Leaf as does
-use Rattle.ceu_tree.specs.Leaf.{Does, acted}
-use Rattle.ceu_tree.specs.Around.{Outcome, Raises, Fails, Past, Registers, AtBlockEnd, AtLoopHead, Leaves, Moved, moved, answered}
-use Rattle.ceu_tree.specs.Step.{free_place, seated, spawned_at, unseat, killed, does_in, stepped}
+use Rattle.ceu_tree.specs.World.{World, NotSet, marked, set_alias}
+use Rattle.ceu_tree.specs.Leaf.{acted}
+use Rattle.ceu_tree.specs.Around.{Outcome, Past}
+use Rattle.ceu_tree.specs.Step.{unseat, killed, stepped}
 use Rattle.ceu_tree.specs.Proper.{is_proper}
 use Rattle.ceu_tree.specs.Run.{Turning, Between, Waiting}
 use Rattle.ceu_legal.specs.Shape.{program_part, Fits, TurnFits, ConfigFits}
@@ -41,11 +35,11 @@ use Rattle.ceu_ready.proofs.Bounds.{grip_within, around_within}
 use Rattle.ceu_ready.proofs.Settled.{focus_unneeded}
 use Rattle.ceu_ready.proofs.Aborts.{killed_spared}
 use Rattle.ceu_ready.proofs.Leaf.{alias_keeps, acted_fine}
-use Rattle.ceu_closing.specs.Closing.{aborted_reads, up_reads, killed_reads, spawned_reads, does_reads, step_reads}
+use Rattle.ceu_closing.specs.Closing.{aborted_reads, up_reads, killed_reads, step_reads}
 use Rattle.ceu_closing.specs.Laws.{Closes}
 use Rattle.ceu_closing.proofs.Envs.{SeatSet}
 use Rattle.ceu_closing.proofs.Does.{does_fine, does_aborts}
-use Rattle.ceu_closing.proofs.Fates.{Fate, answered_fate}
+use Rattle.ceu_closing.proofs.Fates.{Fate}
 use Rattle.ceu_closing.proofs.Whole.{root_abort, root_up, root_kill, tree_abort, same_plugged, same_unseated}
 
 module _ (K : Kernel) (proper : is_proper K ≡ true) where
