@@ -160,9 +160,6 @@ module _ (K : Kernel) (sc : Scope) (body : Body) (T : List (List ℕ)) where
   Named own U m [] = Unit {0}
   Named own U m (s ∷ ss) = ((x : ℕ) → count_of x (stmt_names own U s.stmt) ≤ m x) × Named own U m ss
 
-  OwnHas : World → (ℕ → ℕ) → Type 0
-  OwnHas w m = (x : ℕ) → is_cell (find x sc.seen) ≡ true → (has body x w ≡ true) ⊎ (m x ≡ 0)
-
   list_fine : (ss : List KNode) (m p : ℕ → ℕ) (w : World) → nodes_fine K (names_of K) sc ss → Named true (names_of K) m ss → Named false T p ss → ((x : ℕ) → is_cell (find x sc.seen) ≡ true → (has body x w ≡ true) ⊎ (m x ≡ 0)) → OuterHas w p
       → list_reads ss body w
   list_fine [] m p w ok a b own out = tt
