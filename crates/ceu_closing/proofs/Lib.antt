@@ -1,0 +1,15 @@
+pub mod Registered
+pub mod Envs
+pub mod Trees
+pub mod Frames
+pub mod Within
+pub mod Fates
+pub mod Up
+pub mod Kills
+pub mod Does
+pub mod Apart
+pub mod Serves
+pub mod Idle
+pub mod Whole
+pub mod Steps
+pub mod Runs
