@@ -40,7 +40,7 @@ use Rattle.ceu_compiled.proofs.Agreeing.{reaction}
 
 -- ---- what a command asks
 
-waits_so : (image : Image) (P : Plan) (width : ℕ → ℕ) (K : Kernel) (r : Residual) (w : World) (s : State) (bytes : List ℕ) → Agrees image P width K (Waiting r w) (config_of s bytes) → s ≡ state.Waiting
+pub waits_so : (image : Image) (P : Plan) (width : ℕ → ℕ) (K : Kernel) (r : Residual) (w : World) (s : State) (bytes : List ℕ) → Agrees image P width K (Waiting r w) (config_of s bytes) → s ≡ state.Waiting
 waits_so image P width K r w state.Waiting bytes h = refl
 waits_so image P width K r w (state.Ended v) bytes h = absurd h
 waits_so image P width K r w (state.Faulted f p) bytes h = absurd h

@@ -112,7 +112,7 @@ module _ (image : Image) where
 -- ---- a session
 
 -- a list of commands that comes to the same
-as_run : (s : Seen) (xs ys : List Command) → run s.image xs ≡ run s.image ys → HasRun s xs → HasRun s ys
+pub as_run : (s : Seen) (xs ys : List Command) → run s.image xs ≡ run s.image ys → HasRun s xs → HasRun s ys
 as_run s xs ys same h = record { bytes_are = h.bytes_are ∙ ap bytes_of same; state_is = ap state_of (sym same) ∙ h.state_is }
 
 pub none_ran : (start s : Seen) (xs : List Command) → RanTo start s xs → RanTo start s (xs ++ Idle 0 ∷ [])

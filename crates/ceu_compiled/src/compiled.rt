@@ -95,4 +95,9 @@ impl Reactor for Compiled {
         let came = self.session.idle(out);
         answered(came)
     }
+
+    // A program of one trail has no async that an idle turn could serve.
+    fn rests(&self) -> bool {
+        true
+    }
 }

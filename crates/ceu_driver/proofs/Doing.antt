@@ -1,5 +1,5 @@
 -- What a reactor has done, command by command.
-use Rattle.std.proofs.Common.{◌≡◌, inl, inr, ℕ, ◌+◌, ◌-◌, ◌<◌, List, [], ◌∷◌, ◌++◌, Option, Result, Ok, Err, IfOk, OnOk, refl, sym, ap, ◌∙◌, subst, arith, append_assoc}
+use Rattle.std.proofs.Common.{◌≡◌, inl, inr, ℕ, zero, suc, ◌+◌, ◌-◌, ◌<◌, List, [], ◌∷◌, ◌++◌, Option, Result, Ok, Err, IfOk, OnOk, refl, sym, ap, ◌∙◌, subst, arith, add-zero, append_assoc}
 use Rattle.std.proofs.lemmas.List.{append-nil}
 use Rattle.ceu_io.specs.declared.outside.Failed.{Failed}
 use Rattle.ceu_script.specs.Lines.{Line, content, bad, Comes, Spoils, Ends}
@@ -38,10 +38,24 @@ module _ (S : Config → Type 0) (ran : List Command → Type 0) (over : (c : Co
 
 -- ---- idle turns
 
+one_after : (turn more : ℕ) → turn + 1 + more ≡ turn + suc more
+one_after turn more = omega arith
+
+rest_of : (turns turn : ℕ) → turn < turns → turn + (turns - turn) ≡ turns
+rest_of turns turn less = omega arith
+
 module _ (ran : List Command → Type 0) (more_turns : (xs ys : List Command) (m n : ℕ) → ran (xs ++ Idle m ∷ Idle n ∷ ys) → ran (xs ++ Idle (m + n) ∷ ys)) (xs : List Command) where
   -- one turn more
   pub one_turn : (turn : ℕ) → ran ((xs ++ Idle turn ∷ []) ++ Idle 1 ∷ []) → ran (xs ++ Idle (turn + 1) ∷ [])
   one_turn turn did = more_turns xs [] turn 1 (subst ran (append_assoc xs (Idle turn ∷ []) (Idle 1 ∷ [])) did)
+
+  -- turns more that change nothing
+  turns_on : ((ys : List Command) → ran ys → ran (ys ++ Idle 1 ∷ [])) → (turn more : ℕ) → ran (xs ++ Idle turn ∷ []) → ran (xs ++ Idle (turn + more) ∷ [])
+  turns_on same turn zero did = subst (λ k. ran (xs ++ Idle k ∷ [])) (sym (add-zero turn)) did
+  turns_on same turn (suc more) did = subst (λ k. ran (xs ++ Idle k ∷ [])) (one_after turn more) (turns_on same (turn + 1) more (one_turn turn (same (xs ++ Idle turn ∷ []) did)))
+
+  pub same_turns : (turns turn : ℕ) → turn < turns → ((ys : List Command) → ran ys → ran (ys ++ Idle 1 ∷ [])) → ran (xs ++ Idle turn ∷ []) → ran (xs ++ Idle turns ∷ [])
+  same_turns turns turn less same did = subst (λ k. ran (xs ++ Idle k ∷ [])) (rest_of turns turn less) (turns_on same turn (turns - turn) did)
 
   -- no turn is left out after an end
   turns_left : (turns turn : ℕ) → turn < turns → turn + 1 + (turns - (turn + 1)) ≡ turns

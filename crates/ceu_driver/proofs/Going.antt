@@ -66,15 +66,15 @@ module _ (S S' : Config → Type 0) (whole : ℕ → Config) (rest rest' step : 
   }
 
 -- nothing is left to do
-pub going_done : (S : Config → Type 0) (whole : ℕ → Config) (rest : ℕ → Config → Config) (text : ℕ → List ℕ) (more : ℕ → Config → List ℕ) (x y : Option (List ℕ)) → Going S whole rest text more x y
-    → ((n : ℕ) (c : Config) → rest n c ≡ c) → ((n : ℕ) (c : Config) → more n c ≡ []) → Printed S whole text x y after.Waiting
+pub going_done : (S : Config → Type 0) (whole : ℕ → Config) (rest : ℕ → Config → Config) (text : ℕ → List ℕ) (more : ℕ → Config → List ℕ) (x y : Option (List ℕ)) → (so_far : Going S whole rest text more x y)
+    → ((n : ℕ) → rest n so_far.config ≡ so_far.config) → ((n : ℕ) → more n so_far.config ≡ []) → Printed S whole text x y after.Waiting
 going_done S whole rest text more x y so_far rest_is more_is = record {
   config = so_far.config;
   bound = so_far.bound;
-  comes = λ n h. so_far.comes n h ∙ rest_is n so_far.config;
+  comes = λ n h. so_far.comes n h ∙ rest_is n;
   here = so_far.here;
   status = so_far.waits;
   shown = so_far.shown;
-  texts = λ n h. so_far.texts n h ∙ ap (λ (l : List ℕ). so_far.shown ++ l) (more_is n so_far.config) ∙ append-nil so_far.shown;
+  texts = λ n h. so_far.texts n h ∙ ap (λ (l : List ℕ). so_far.shown ++ l) (more_is n) ∙ append-nil so_far.shown;
   written = so_far.written;
 }

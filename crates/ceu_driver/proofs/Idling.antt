@@ -11,7 +11,7 @@ use Rattle.ceu_driver.specs.Printing.{Printed, Prints, CutShort, new_text, turns
 use Rattle.ceu_driver.specs.declared.reactor.After.{After}
 use Rattle.ceu_driver.specs.declared.reactor.After.TheVariants as after
 use Rattle.ceu_driver.proofs.Going.{Going, going_starts, going_on, going_ends, going_fails, going_done}
-use Rattle.ceu_driver.proofs.Settled.{Settled, turns_stay, turns_print_nothing}
+use Rattle.ceu_driver.proofs.Settled.{Settled, turns_rest, turns_stay, turns_print_no_more, turns_print_nothing}
 
 -- a configuration that waits, again as such
 pub still_here : (stands : Config → Type 0) (c : Config) → status_of c ≡ Waits → stands c → (r : Residual) × (w : World) × stands (Waiting r w)
@@ -60,9 +60,10 @@ module _ (S S' : Config → Type 0) (K : Kernel) (all : Bool) (outputs : List Po
     idle_fails cut = going_fails S S' (λ n. idle_turns K n turns c) (λ n d. idle_turns K n (turns - turn) d) (λ n d. idle_turns K n (turns - (turn + 1)) d) (λ n d. idle_turn K n d)
         (λ n. turns_text all outputs K n turns c) (λ n d. turns_text all outputs K n (turns - turn) d) (λ n d. turns_text all outputs K n (turns - (turn + 1)) d) (λ n d. new_text all' outputs' (world_of d).marks (idle_turn K n d)) x y z so_far rest_is more_is cut
 
-  pub idle_done : (left : ℕ) → left ≡ 0 → IsGoing S left y → Printed S (λ n. idle_turns K n turns c) (λ n. turns_text all outputs K n turns c) x y after.Waiting
-  idle_done left none so_far = going_done S (λ n. idle_turns K n turns c) (λ n d. idle_turns K n left d) (λ n. turns_text all outputs K n turns c) (λ n d. turns_text all outputs K n left d) x y so_far
-      (λ n d. ap (λ k. idle_turns K n k d) none) (λ n d. ap (λ k. turns_text all outputs K n k d) none)
+  -- those that are left change nothing
+  pub idle_rests : (left : ℕ) (so_far : IsGoing S left y) → ((n : ℕ) → idle_turn K n so_far.config ≡ so_far.config) → Printed S (λ n. idle_turns K n turns c) (λ n. turns_text all outputs K n turns c) x y after.Waiting
+  idle_rests left so_far same = going_done S (λ n. idle_turns K n turns c) (λ n d. idle_turns K n left d) (λ n. turns_text all outputs K n turns c) (λ n d. turns_text all outputs K n left d) x y so_far
+      (λ n. turns_rest K n left so_far.config (same n)) (λ n. turns_print_no_more all outputs K n left so_far.config (same n))
 
 pub still_waits : (S S' : Kernel → Config → Type 0) (later : Kernel → ℕ → Config → Config) (text : Kernel → ℕ → Config → List ℕ) (x y : Option (List ℕ)) (r : Result After Failed)
     → ((K : Kernel) (c : Config) → S K c → Prints (S' K) (λ n. later K n c) (λ n. text K n c) x y r) → StillWaits S S' r

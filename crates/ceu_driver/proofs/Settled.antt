@@ -1,4 +1,4 @@
--- After an end or a fault nothing is done and nothing is printed.
+-- After an end or a fault nothing is done and nothing is printed. Nor is anything by idle turns of which one changes nothing.
 use Rattle.std.proofs.Common.{◌≡◌, ℕ, zero, suc, ◌+◌, Bool, List, [], ◌∷◌, ◌++◌, length, drop, refl, ap, ◌∙◌}
 use Rattle.ceu_base.specs.declared.kinds.Mark.{Mark}
 use Rattle.ceu_base.specs.declared.kinds.Port.{Port}
@@ -43,9 +43,13 @@ turn_stays K n (Turning l f w) here = refl
 turn_stays K n (Between l r w) here = refl
 turn_stays K n (Waiting r w) here = absurd here
 
+-- where one idle turn changes nothing, so it is with more
+pub turns_rest : (K : Kernel) (n k : ℕ) (c : Config) → idle_turn K n c ≡ c → idle_turns K n k c ≡ c
+turns_rest K n zero c same = refl
+turns_rest K n (suc k) c same = ap (idle_turns K n k) same ∙ turns_rest K n k c same
+
 pub turns_stay : (K : Kernel) (n k : ℕ) (c : Config) → Settled c → idle_turns K n k c ≡ c
-turns_stay K n zero c here = refl
-turns_stay K n (suc k) c here = ap (idle_turns K n k) (turn_stays K n c here) ∙ turns_stay K n k c here
+turns_stay K n k c here = turns_rest K n k c (turn_stays K n c here)
 
 pub done_stays : (K : Kernel) (n : ℕ) (x : Command) (c : Config) → Settled c → done K n x c ≡ c
 unfolding done
@@ -70,10 +74,12 @@ module _ (all : Bool) (outputs : List Port) (K : Kernel) (n : ℕ) where
   no_text : (c d : Config) → d ≡ c → new_text all outputs (world_of c).marks d ≡ []
   no_text c d same = ap (λ (e : Config). new_text all outputs (world_of c).marks e) same ∙ ap (marks_text all outputs) (nothing_new (world_of c).marks)
 
+  pub turns_print_no_more : (k : ℕ) (c : Config) → idle_turn K n c ≡ c → turns_text all outputs K n k c ≡ []
+  turns_print_no_more zero c same = refl
+  turns_print_no_more (suc k) c same = (λ i. no_text c (idle_turn K n c) same i ++ turns_text all outputs K n k (same i)) ∙ turns_print_no_more k c same
+
   pub turns_print_nothing : (k : ℕ) (c : Config) → Settled c → turns_text all outputs K n k c ≡ []
-  turns_print_nothing zero c here = refl
-  turns_print_nothing (suc k) c here =
-      (λ i. no_text c (idle_turn K n c) (turn_stays K n c here) i ++ turns_text all outputs K n k (turn_stays K n c here i)) ∙ turns_print_nothing k c here
+  turns_print_nothing k c here = turns_print_no_more k c (turn_stays K n c here)
 
   command_prints_nothing : (x : Command) (c : Config) → Settled c → command_text all outputs K n x c ≡ []
   command_prints_nothing (Idle k) c here = turns_print_nothing k c here

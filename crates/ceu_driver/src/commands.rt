@@ -86,6 +86,9 @@ fn idle<R: Reactor, O: Sink>(
     ensures waits { StillWaits (R.stands reactor.old) (R.stands reactor.new) result }
 {
     'turns: for turn in 0..turns {
+        if reactor.rests() {
+            return Ok(After::Waiting);
+        }
         match idle_turn(reactor, marks)? {
             After::Waiting => {}
             after => return Ok(after),

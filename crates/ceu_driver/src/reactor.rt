@@ -1,5 +1,5 @@
 // What runs a program, command by command.
-ghost use Rattle.std.specs.Prelude.{◌≡◌, ◌<◌, ◌+◌, ◌++◌, ◌∷◌, ℕ, [], List, OnOk};
+ghost use Rattle.std.specs.Prelude.{◌≡◌, ◌<◌, ◌+◌, ◌++◌, ◌∷◌, ℕ, [], List, OnOk, IsTrue};
 ghost use Rattle.ceu_base.specs.declared.kinds.Port.{Port};
 ghost use Rattle.ceu_io.specs.Counts.{HasCause};
 ghost use Rattle.ceu_script.specs.Commands.{IsCommand};
@@ -59,6 +59,12 @@ pub trait Reactor {
         ensures reaction { (K : Kernel) (c : Config) → stands self.old K c → Reaction W.notes W.stops (stands self.new K) (λ n. run.idle_turn K n c) (world_of c).marks out.old out.new result }
         ensures ran { (start : Self) (xs : List Command) → ran start xs self.old → OnOk result (ran start (xs ++ Idle 1 ∷ []) self.new) }
         ensures cause { HasCause (W.faults out.old) (W.faults out.new) result };
+
+    /// Whether idle turns change nothing from here on, so that they needn't be done: with one turn more the program stands for the same configuration, and
+    /// has run as it did. `false` is right at any time.
+    fn rests(&self) -> bool
+        ensures turn { IsTrue result → (K : Kernel) (c : Config) (n : ℕ) → stands self.now K c → run.idle_turn K n c ≡ c }
+        ensures ran { IsTrue result → (K : Kernel) (c : Config) (start : Self) (xs : List Command) → stands self.now K c → ran start xs self.now → ran start (xs ++ Idle 1 ∷ []) self.now };
 
     // No idle turns are nothing.
     ghost no_turns: { (start s : Self) (xs : List Command) → ran start xs s → ran start (xs ++ Idle 0 ∷ []) s };

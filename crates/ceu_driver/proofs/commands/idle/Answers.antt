@@ -1,12 +1,12 @@
-use Rattle.std.proofs.Common.{[], ◌∷◌, ◌++◌, refl, ◌∙◌, subst}
+use Rattle.std.proofs.Common.{◌-◌, [], ◌∷◌, ◌++◌, refl, ◌∙◌, subst}
 use Rattle.std.proofs.lemmas.Result.{err_from_is_err_and}
 use Rattle.ceu_tree.specs.declared.command.Command.TheVariants.{Idle}
 use Rattle.ceu_tree.specs.Run as run
 use Rattle.ceu_tree.specs.Run.{Waiting, Waits, status_of, world_of}
 use Rattle.ceu_driver.specs.Printing.{Printed, new_text}
 use Rattle.ceu_driver.specs.declared.reactor.After.{After}
-use Rattle.ceu_driver.proofs.Doing.{has_done, one_turn, last_turn}
-use Rattle.ceu_driver.proofs.Idling.{idle_starts, idle_goes_on, idle_ends, idle_fails, waits_again}
+use Rattle.ceu_driver.proofs.Doing.{has_done, one_turn, same_turns, last_turn}
+use Rattle.ceu_driver.proofs.Idling.{idle_starts, idle_goes_on, idle_ends, idle_fails, idle_rests, waits_again}
 use Rattle.ceu_driver.proofs.Settled.{not_waiting_settled}
 use Rattle.ceu_driver.proofs.commands.idle.Goals as goal
 
@@ -18,6 +18,18 @@ turns-init g c = record {
   quiet = refl;
   waits = λ inputs w. w;
 }
+
+pub returns-then-rests-clause-printed : goal.returns-then-rests-clause-printed
+returns-then-rests-clause-printed g c = λ K b here waits.
+    let so_far = c.turns.invariant.going K b here waits in
+    idle_rests (g.R.Reactor.stands c.turns.reactor K) (g.R.Reactor.stands c.turns.reactor K) K c.args.marks.now.all c.args.marks.now.outputs.now b c.args.turns c.turns.turn (g.O.Sink.held c.args.marks.now.out.now) (g.O.Sink.held c.turns.marks.out.now) (g.O.Sink.held c.turns.marks.out.now)
+    (c.args.turns - c.turns.turn) so_far (λ n. c.rests.ensures.turn c.if-rests.true K so_far.config n so_far.here)
+
+pub returns-then-rests-clause-ran : goal.returns-then-rests-clause-ran
+returns-then-rests-clause-ran g c = λ K b start xs here waits is.
+    let so_far = c.turns.invariant.going K b here waits in
+    same_turns (λ ys. g.R.Reactor.ran start ys c.turns.reactor) (g.met.R.Reactor.more_turns start c.turns.reactor) xs c.args.turns c.turns.turn c.turns-test.true
+    (λ ys. c.rests.ensures.ran c.if-rests.true K so_far.config start ys so_far.here) (c.turns.invariant.did start xs is)
 
 pub returns-in_err-after-clause-printed : goal.returns-in_err-after-clause-printed
 returns-in_err-after-clause-printed g c =
