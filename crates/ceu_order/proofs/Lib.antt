@@ -1,1 +1,5 @@
 pub mod Chains
+pub mod Older
+pub mod Choice
+pub mod Places
+pub mod Trails

@@ -1,4 +1,8 @@
 use Rattle.ceu_order.proofs.Chains.{chain_of_root}
+use Rattle.ceu_order.proofs.Older.{goes_across}
+use Rattle.ceu_order.proofs.Choice.{first_from}
+use Rattle.ceu_order.proofs.Places.{in_seats}
+use Rattle.ceu_order.proofs.Trails.{seat_chain}
 use Rattle.ceu_order.proofs.root_chain.Goals as goal
 
 pub returns : goal.returns
