@@ -3,3 +3,4 @@ pub mod Older
 pub mod Choice
 pub mod Places
 pub mod Trails
+pub mod Within
