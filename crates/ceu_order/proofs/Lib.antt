@@ -4,3 +4,4 @@ pub mod Choice
 pub mod Places
 pub mod Trails
 pub mod Within
+pub mod Firsts

@@ -54,18 +54,18 @@ module _ (image : Image) (bytes : List ℕ) (t : Tables) (home : Body → Home) 
   widened [] a b f h = tt
   widened (x ∷ xs) a b f h = (f x h.0, h.1)
 
-  pub wider : (body : Body) (g : ℕ) (a b : List Seated) → ((x : Seated) → Among x a → Among x b) → Trail body g a → Trail body g b
+  abbrev pub wider : (body : Body) (g : ℕ) (a b : List Seated) → ((x : Seated) → Among x a → Among x b) → Trail body g a → Trail body g b
   wider body g a b f x = record { around = x.around; chained = x.chained; head = widened x.around a b f x.head }
 
-  pub seat_trail : (decls : List KDecl) (body : Body) (pools : ℕ) (all : Instances) (g : ℕ) → SeatTrail decls body pools all g → Trail body g (instance_seats all body)
+  abbrev pub seat_trail : (decls : List KDecl) (body : Body) (pools : ℕ) (all : Instances) (g : ℕ) → SeatTrail decls body pools all g → Trail body g (instance_seats all body)
   seat_trail decls body pools all g x = record { around = record { seat = x.seat; body = body } ∷ x.inner; chained = x.chained; head = (x.among, x.known) }
 
-  pub in_call : (s : KNode) (body : Body) (low : ℕ) (Inner Laid_in : Type 0) (g : ℕ) (all : List Seated) → CallStands t home (view image bytes) s body low Inner → CallLaid image t home s body Laid_in
+  abbrev pub in_call : (s : KNode) (body : Body) (low : ℕ) (Inner Laid_in : Type 0) (g : ℕ) (all : List Seated) → CallStands t home (view image bytes) s body low Inner → CallLaid image t home s body Laid_in
       → Trail (Awaited body s.node) g all → Trail body g all
   in_call s body low Inner Laid_in g all x l y = record { around = y.around; chained = λ c e. y.chained c (call_chain image bytes t home s body low Inner Laid_in c x l e); head = y.head }
 
   -- the first one of some instances
-  pub first_seat : (decls : List KDecl) (body : Body) (pools : ℕ) (seat : Seat) (r : Residual) (more : Instances) (g : ℕ) (Inner Laid_in : Type 0) (inside : List Seated)
+  unfoldable pub first_seat : (decls : List KDecl) (body : Body) (pools : ℕ) (seat : Seat) (r : Residual) (more : Instances) (g : ℕ) (Inner Laid_in : Type 0) (inside : List Seated)
       → SeatStands t home (view image bytes) seat decls body pools Inner → SeatLaid image t home seat.number Laid_in → has_place decls seat ≡ true → seat_gate t decls pools seat ≤ g → g < seat_gate t decls pools seat + t.gates seat.code
       → Trail (Spawned seat.number) g inside → SeatTrail decls body pools (instance seat r more) g
   unfolding seats
@@ -84,7 +84,7 @@ module _ (image : Image) (bytes : List ℕ) (t : Tables) (home : Body → Home) 
         to = to;
       }
 
-  pub later_seat : (decls : List KDecl) (body : Body) (pools : ℕ) (seat : Seat) (r : Residual) (more : Instances) (g : ℕ) → SeatTrail decls body pools more g → SeatTrail decls body pools (instance seat r more) g
+  unfoldable pub later_seat : (decls : List KDecl) (body : Body) (pools : ℕ) (seat : Seat) (r : Residual) (more : Instances) (g : ℕ) → SeatTrail decls body pools more g → SeatTrail decls body pools (instance seat r more) g
   unfolding seats
   later_seat decls body pools seat r more g x =
       record {
