@@ -29,10 +29,10 @@ use Rattle.ceu_order.proofs.Trails.{Picks}
 use Rattle.ceu_order.proofs.Within.{branch_cases, Trail, SeatTrail, wider, seat_trail, in_call, first_seat, later_seat, Tested, ended_passed, not_in, leaf_at, leaf_trail, block_at, trail_in, seats_trail, branches_trail}
 
 module _ (image : Image) (bytes : List ℕ) (t : Tables) (home : Body → Home) (A : Type 0) (pick : Residual → Option A) (test : Gate → Bool) (picks : Picks A pick test t) where
-  abbrev Passes : ℕ → Type 0
+  abbrev pub Passes : ℕ → Type 0
   Passes = Tested image bytes t home A pick test picks
 
-  abbrev Goes : (xs : List Seated) (g : ℕ) (ys : List Seated) (h : ℕ) → Type 0
+  abbrev pub Goes : (xs : List Seated) (g : ℕ) (ys : List Seated) (h : ℕ) → Type 0
   Goes xs g ys h = earlier bytes (frames t home bytes xs) (frames t home bytes ys) (nat_lt g h) ≡ true
 
   -- ---- of a part
@@ -50,7 +50,7 @@ module _ (image : Image) (bytes : List ℕ) (t : Tables) (home : Body → Home) 
   FirstOf None body low high all = (h : ℕ) → low ≤ h → h < high → Passes h → ⊥
   FirstOf (Some f) body low high all = First f body low high all
 
-  leaf_first : (r : Residual) (body : Body) (low high : ℕ) → LeafStands t (view image bytes) (home body) r low high → (o : Option A) → pick r ≡ o → FirstOf (here o) body low high []
+  pub leaf_first : (r : Residual) (body : Body) (low high : ℕ) → LeafStands t (view image bytes) (home body) r low high → (o : Option A) → pick r ≡ o → FirstOf (here o) body low high []
   unfolding FocusStands
   leaf_first r body low high x None e = λ h a b p.
       let same = leaf_at image bytes t home A pick test picks (home body) r low high h x a b p in
@@ -70,14 +70,14 @@ module _ (image : Image) (bytes : List ℕ) (t : Tables) (home : Body → Home) 
 
   -- ---- of a part inside another one
 
-  record Inside (fr : Frame) (body : Body) (low high : ℕ) (all : List Seated) (inner : Body) (from to : ℕ) (inside : List Seated) : Type 0 where
-    goes : (e : Spot) → FrameStands t home (view image bytes) fr body low high e → e ≡ spot inner from to
-    above : low ≤ from
-    below : to ≤ high
-    covers : (h : ℕ) → low ≤ h → h < high → Passes h → (from ≤ h) × (h < to)
-    trails : (g : ℕ) (y : Trail image bytes t home inner g inside) → (z : Trail image bytes t home body g all) × (z.around ≡ y.around)
+  pub record Inside (fr : Frame) (body : Body) (low high : ℕ) (all : List Seated) (inner : Body) (from to : ℕ) (inside : List Seated) : Type 0 where
+    pub goes : (e : Spot) → FrameStands t home (view image bytes) fr body low high e → e ≡ spot inner from to
+    pub above : low ≤ from
+    pub below : to ≤ high
+    pub covers : (h : ℕ) → low ≤ h → h < high → Passes h → (from ≤ h) × (h < to)
+    pub trails : (g : ℕ) (y : Trail image bytes t home inner g inside) → (z : Trail image bytes t home body g all) × (z.around ≡ y.around)
 
-  under_first : (fr : Frame) (body : Body) (low high : ℕ) (all : List Seated) (inner : Body) (from to : ℕ) (inside : List Seated) → Inside fr body low high all inner from to inside
+  pub under_first : (fr : Frame) (body : Body) (low high : ℕ) (all : List Seated) (inner : Body) (from to : ℕ) (inside : List Seated) → Inside fr body low high all inner from to inside
       → (o : Option (Focus A)) → FirstOf o inner from to inside → FirstOf (under fr o) body low high all
   unfolding FocusStands
   under_first fr body low high all inner from to inside i None x = λ h a b p. let c = i.covers h a b p in x h c.0 c.1 p
@@ -102,15 +102,15 @@ module _ (image : Image) (bytes : List ℕ) (t : Tables) (home : Body → Home) 
 
   -- ---- of some instances
 
-  record FirstSeat (before : Instances) (seat : Seat) (f : Focus A) (after : Instances) (decls : List KDecl) (body : Body) (pools : ℕ) (all : Instances) : Type 0 where
-    gate : ℕ
-    trail : SeatTrail image bytes t home decls body pools all gate
-    passes : Passes gate
-    at : (e d : Spot) → SeatsAround t home (view image bytes) before seat after decls body pools e → FocusStands t home (view image bytes) f e.body e.low e.high d → d.low ≡ gate
-    others : (h : ℕ) → InSeats t decls pools all h → Passes h
+  pub record FirstSeat (before : Instances) (seat : Seat) (f : Focus A) (after : Instances) (decls : List KDecl) (body : Body) (pools : ℕ) (all : Instances) : Type 0 where
+    pub gate : ℕ
+    pub trail : SeatTrail image bytes t home decls body pools all gate
+    pub passes : Passes gate
+    pub at : (e d : Spot) → SeatsAround t home (view image bytes) before seat after decls body pools e → FocusStands t home (view image bytes) f e.body e.low e.high d → d.low ≡ gate
+    pub others : (h : ℕ) → InSeats t decls pools all h → Passes h
         → (h ≡ gate) ⊎ ((y : SeatTrail image bytes t home decls body pools all h) × Goes (record { seat = trail.seat; body = body } ∷ trail.inner) gate (record { seat = y.seat; body = body } ∷ y.inner) h)
 
-  abbrev SeatsFirst : ChosenInstance A → List KDecl → Body → (pools : ℕ) → Instances → Type 0
+  abbrev pub SeatsFirst : ChosenInstance A → List KDecl → Body → (pools : ℕ) → Instances → Type 0
   SeatsFirst no_chosen_instance decls body pools all = (h : ℕ) → InSeats t decls pools all h → Passes h → ⊥
   SeatsFirst (chosen_instance before seat f after) decls body pools all = FirstSeat before seat f after decls body pools all
 
@@ -137,7 +137,7 @@ module _ (image : Image) (bytes : List ℕ) (t : Tables) (home : Body → Home) 
           absurd (false≢true (sym e ∙ one))
       ]
 
-  seat_first : (decls : List KDecl) (body : Body) (pools : ℕ) (seat : Seat) (r : Residual) (more : Instances)
+  pub seat_first : (decls : List KDecl) (body : Body) (pools : ℕ) (seat : Seat) (r : Residual) (more : Instances)
       → SeatsStand t home (view image bytes) (instance seat r more) decls body pools → SeatsLaid image t home (instance seat r more) → seats_stand decls (instance seat r more) → Ascend 0 decls
       → InOrder (Older t home bytes) (instance_seats (instance seat r more) body) → (o : Option (Focus A)) (c : ChosenInstance A)
       → FirstOf o (Spawned seat.number) (seat_gate t decls pools seat) (seat_gate t decls pools seat + t.gates seat.code) (seats r (Spawned seat.number)) → SeatsFirst c decls body pools more

@@ -5,3 +5,4 @@ pub mod Places
 pub mod Trails
 pub mod Within
 pub mod Firsts
+pub mod Chosen
