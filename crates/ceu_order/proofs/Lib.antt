@@ -6,3 +6,4 @@ pub mod Trails
 pub mod Within
 pub mod Firsts
 pub mod Chosen
+pub mod Whole

@@ -1,9 +1,16 @@
-//! The order of the machine's gates and the lexical order of the leaves that stand there.
+//! The order of trails: the machine's order of gates is the lexical order of the leaves that stand there, so the gate that goes next is that of the first
+//! leaf in lexical order. Each law is the contract of a function with an empty body.
 #![tactic(auto)]
 
-ghost use Rattle.ceu_order.specs.Laws.{RootChain};
+ghost use Rattle.ceu_order.specs.Laws.{FirstServedStands, FirstStands};
 
-/// The chain of the program's frame is empty.
-pub fn root_chain()
-    ensures { RootChain }
+/// Where a configuration stands in the memory, the machine resumes the gate of the first leaf in lexical order that can run at a level, and finds none where
+/// there is none: its choice is never unclear.
+pub fn first_stands()
+    ensures { FirstStands }
+{}
+
+/// So it serves the first async in lexical order that wasn't served in its round.
+pub fn first_served_stands()
+    ensures { FirstServedStands }
 {}
