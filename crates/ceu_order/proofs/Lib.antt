@@ -7,3 +7,4 @@ pub mod Within
 pub mod Firsts
 pub mod Chosen
 pub mod Whole
+pub mod Bodies

@@ -126,6 +126,18 @@ module _ (image : Image) (bytes : List ℕ) where
         ap (chain image bytes) frame_is ∙
         link_chain ((home body).frame + t.offset (frame_slot (out-KStmt s.stmt))) (home body).frame (t.resumed s.node) c room x.linked.goes_back l.goes_back x.linked.caller_frame (omega arith) e
 
+    -- where it goes back to, and its caller's frame
+    pub call_back : (s : KNode) (body : Body) (low : ℕ) (Inner Laid_in : Type 0) → CallStands t home (view image bytes) s body low Inner → CallLaid image t home s body Laid_in
+        → (return_of bytes (home (Awaited body s.node)).frame ≡ t.resumed s.node) × (outer_frame bytes (home (Awaited body s.node)).frame ≡ (home body).frame)
+    call_back s body low Inner Laid_in x l =
+        let frame_is : (home (Awaited body s.node)).frame ≡ (home body).frame + t.offset (frame_slot (out-KStmt s.stmt)) = ap (λ (h : Home). h.frame) x.home_is in
+        let f : ℕ = (home body).frame + t.offset (frame_slot (out-KStmt s.stmt)) in
+        let room : in_slots image ((home body).frame + t.offset (frame_slot (out-KStmt s.stmt))) 8 ≡ true = sym (ap (λ (n : ℕ). in_slots image n 8) frame_is) ∙ l.has_link in
+        (
+          ap (return_of bytes) frame_is ∙ seen_at 2 f (t.resumed s.node) (part_in f 8 f 2 room (omega arith) (omega arith)) x.linked.goes_back,
+          ap (outer_frame bytes) frame_is ∙ seen_at 2 (f + 2) (home body).frame (part_in f 8 (f + 2) 2 room (omega arith) (omega arith)) x.linked.caller_frame,
+        )
+
     module _ (seat : Seat) (decls : List KDecl) (body : Body) (pools : ℕ) (Inner Laid_in : Type 0) (x : SeatStands t home (view image bytes) seat decls body pools Inner) (l : SeatLaid image t home seat.number Laid_in) where
       abbrev at : ℕ
       at = place_at t (home body) seat.pool seat.code seat.place
@@ -155,3 +167,6 @@ module _ (image : Image) (bytes : List ℕ) where
       seat_chain c e =
           subst (λ (f : ℕ). chain image bytes f ≡ Some (c ++ f ∷ [])) (sym frame_is)
           (place_chain at (home body).frame c room x.place.taken x.place.is_instance x.place.spawner_frame (omega arith) e)
+
+      pub seat_marked : return_of bytes (home (Spawned seat.number)).frame ≡ 65535
+      seat_marked = ap (return_of bytes) frame_is ∙ seen_at 2 (at + 9) 65535 (part_in at 17 (at + 9) 2 whole (omega arith) (omega arith)) x.place.is_instance

@@ -16,6 +16,7 @@ use Rattle.ceu_stands.specs.Stands.{Stands}
 use Rattle.ceu_stands.specs.Frames.{spot, FocusStands}
 use Rattle.ceu_stands.specs.Values.{MemoryStands}
 use Rattle.ceu_order.specs.Laid.{Laid, InOrder}
+use Rattle.ceu_order.specs.Told.{Owners, TablesTell, Owned, OlderInBody}
 
 -- Of two instances that the machine takes for those of one pool, by its row and the spawner's frame, the one before is older.
 abbrev pub OlderBefore : Tables → (Body → Home) → Seated → Seated → Type 0
@@ -54,3 +55,17 @@ async_of u = InAsync u.stmt false u.inner
 abbrev pub FirstServedStands : Type 0
 FirstServedStands = (image : Image) (t : Tables) (home : Body → Home) (r : Residual) (w : World) (bytes : List ℕ)
     → TrailsStand image t home r w bytes → ChoiceStands Unserved image t home bytes async_of (choose Unserved unserved r) (first_unserved image bytes)
+
+-- ---- instances of one pool
+
+-- a tree stands in the memory, and its pools and awaits of code stand in the codes that own them
+pub record PoolsTold (image : Image) (t : Tables) (o : Owners) (home : Body → Home) (r : Residual) (w : World) (bytes : List ℕ) : Type 0 where
+  pub memory : MemoryStands image t home r w bytes
+  pub laid : Laid image t home r Program
+  pub owned : Owned o r None
+  pub tables : TablesTell t o
+
+-- Where in each pool of an open body the older instance stands before, it is so of what the machine takes for one pool.
+abbrev pub OlderStand : Type 0
+OlderStand = (image : Image) (t : Tables) (o : Owners) (home : Body → Home) (r : Residual) (w : World) (bytes : List ℕ)
+    → PoolsTold image t o home r w bytes → InOrder OlderInBody (seats r Program) → InOrder (OlderBefore t home) (seats r Program)

@@ -2,7 +2,7 @@
 //! leaf in lexical order. Each law is the contract of a function with an empty body.
 #![tactic(auto)]
 
-ghost use Rattle.ceu_order.specs.Laws.{FirstServedStands, FirstStands};
+ghost use Rattle.ceu_order.specs.Laws.{FirstServedStands, FirstStands, OlderStand};
 
 /// Where a configuration stands in the memory, the machine resumes the gate of the first leaf in lexical order that can run at a level, and finds none where
 /// there is none: its choice is never unclear.
@@ -13,4 +13,9 @@ pub fn first_stands()
 /// So it serves the first async in lexical order that wasn't served in its round.
 pub fn first_served_stands()
     ensures { FirstServedStands }
+{}
+
+/// A pool's row and its spawner's frame tell which pool it is, so where the instances of each pool stand by age, they do so for the machine.
+pub fn older_stand()
+    ensures { OlderStand }
 {}
