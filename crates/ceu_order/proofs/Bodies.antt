@@ -21,7 +21,7 @@ use Rattle.ceu_order.proofs.Older.{Among}
 use Rattle.ceu_order.proofs.Trails.{call_back, seat_known, seat_marked}
 use Rattle.ceu_order.proofs.Within.{branch_cases}
 
-among_either : (x : Seated) (a b : List Seated) → Among x (a ++ b) → Among x a ⊎ Among x b
+pub among_either : (x : Seated) (a b : List Seated) → Among x (a ++ b) → Among x a ⊎ Among x b
 among_either x [] b h = inr h
 among_either x (y ∷ a) b (inl e) = inl (inl e)
 among_either x (y ∷ a) b (inr h) = elim (among_either x a b h) [ inl i ↦ inl (inr i) | inr i ↦ inr i ]

@@ -8,3 +8,4 @@ pub mod Firsts
 pub mod Chosen
 pub mod Whole
 pub mod Bodies
+pub mod Ages

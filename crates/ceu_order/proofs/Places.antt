@@ -30,11 +30,11 @@ has_one d ds seat = go d.kind
     go (kind.Var ty) = refl
     go (kind.Alias c) = refl
 
-record PlaceHere (slot : ℕ) (k : KKind) (seat : Seat) : Type 0 where
-  size : ℕ
-  is_pool : k ≡ kind.Pool size seat.code
-  pool_is : slot ≡ seat.pool
-  within : seat.place < size
+pub record PlaceHere (slot : ℕ) (k : KKind) (seat : Seat) : Type 0 where
+  pub size : ℕ
+  pub is_pool : k ≡ kind.Pool size seat.code
+  pub pool_is : slot ≡ seat.pool
+  pub within : seat.place < size
 
 place_parts : (slot : ℕ) (k : KKind) (seat : Seat) → place_here slot k seat ≡ true → PlaceHere slot k seat
 place_parts slot (kind.Pool n c) seat e =
@@ -44,7 +44,7 @@ place_parts slot (kind.Pool n c) seat e =
 place_parts slot (kind.Var ty) seat e = absurd (false≢true e)
 place_parts slot (kind.Alias c) seat e = absurd (false≢true e)
 
-has_cases : (d : KDecl) (ds : List KDecl) (seat : Seat) → has_place (d ∷ ds) seat ≡ true → PlaceHere d.slot d.kind seat ⊎ (has_place ds seat ≡ true)
+pub has_cases : (d : KDecl) (ds : List KDecl) (seat : Seat) → has_place (d ∷ ds) seat ≡ true → PlaceHere d.slot d.kind seat ⊎ (has_place ds seat ≡ true)
 has_cases d ds seat e = elim (or_cases (place_here d.slot d.kind seat) (has_place ds seat) (sym (has_one d ds seat) ∙ e)) [
   | inl h ↦ inl (place_parts d.slot d.kind seat h)
   | inr h ↦ inr h

@@ -4,19 +4,20 @@ use Rattle.ceu_code.specs.declared.image.Image.{Image}
 use Rattle.ceu_isa.specs.Order.{Choice, Nowhere, Chosen}
 use Rattle.ceu_isa.specs.Reactions.{first_at}
 use Rattle.ceu_isa.specs.Commands.{first_unserved}
+use Rattle.ceu_tree.specs.declared.kernel.KCode.{KCode}
 use Rattle.ceu_tree.specs.Residual.{Body, Program, Act, Residual, Run, InAsync}
 use Rattle.ceu_tree.specs.World.{World}
 use Rattle.ceu_tree.specs.Focus.{Focus, leaf, choose}
 use Rattle.ceu_tree.specs.Wake.{runs_at, Unserved, unserved}
-use Rattle.ceu_tree.specs.Legal.{Seated, seats}
-use Rattle.ceu_living.specs.Instances.{TreeStands}
+use Rattle.ceu_tree.specs.Legal.{Seated, seats, open_slots}
+use Rattle.ceu_living.specs.Instances.{TreeStands, pools_stand}
 use Rattle.ceu_stands.specs.Tables.{Tables}
 use Rattle.ceu_stands.specs.Views.{view, Home}
 use Rattle.ceu_stands.specs.Stands.{Stands}
 use Rattle.ceu_stands.specs.Frames.{spot, FocusStands}
 use Rattle.ceu_stands.specs.Values.{MemoryStands}
 use Rattle.ceu_order.specs.Laid.{Laid, InOrder}
-use Rattle.ceu_order.specs.Told.{Owners, TablesTell, Owned, OlderInBody}
+use Rattle.ceu_order.specs.Told.{Owners, TablesTell, Owned, OlderInBody, EachOnce}
 
 -- Of two instances that the machine takes for those of one pool, by its row and the spawner's frame, the one before is older.
 abbrev pub OlderBefore : Tables → (Body → Home) → Seated → Seated → Type 0
@@ -69,3 +70,8 @@ pub record PoolsTold (image : Image) (t : Tables) (o : Owners) (home : Body → 
 abbrev pub OlderStand : Type 0
 OlderStand = (image : Image) (t : Tables) (o : Owners) (home : Body → Home) (r : Residual) (w : World) (bytes : List ℕ)
     → PoolsTold image t o home r w bytes → InOrder OlderInBody (seats r Program) → InOrder (OlderBefore t home) (seats r Program)
+
+-- Where the instances of a tree stand in their pools and no slot of an open body is open twice, the older instance of each pool stands before. The names of
+-- the slots are those that legality gives: `codes` are the kernel's.
+abbrev pub OlderInBodies : Type 0
+OlderInBodies = (codes : List KCode) (r : Residual) → pools_stand r → EachOnce (open_slots codes r Program) → InOrder OlderInBody (seats r Program)

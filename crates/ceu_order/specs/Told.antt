@@ -1,11 +1,11 @@
 -- What tells the instances of one pool from all others: the code that each pool and each await of code stands in, the row of a pool, and the offset to
 -- which awaited code goes back (this project's own).
-use Rattle.std.specs.Prelude.{◌≡◌, ℕ, ◌<◌, Bool, true, List, Option, Some, None}
+use Rattle.std.specs.Prelude.{◌≡◌, ◌≢◌, ℕ, ◌<◌, Bool, true, List, [], ◌∷◌, Option, Some, None}
 use Rattle.ceu_tree.specs.declared.kernel.KStmt.{out-KStmt}
 use Rattle.ceu_tree.specs.declared.kernel.KStmt.TheOpen.{KStmt-F}
 use Rattle.ceu_tree.specs.Residual.{Seat, Residual, Block, Open, Loop, Call, Par, Branches, no_branch, branch, Instances, no_instance, instance}
 use Rattle.ceu_tree.specs.Leaf.{Layer}
-use Rattle.ceu_tree.specs.Legal.{Seated}
+use Rattle.ceu_tree.specs.Legal.{Seated, OpenSlot}
 use Rattle.ceu_stands.specs.Tables.{Tables}
 
 -- The slots that are pools and the nodes that await code, and of each the code that it stands in; None for the program's body.
@@ -56,3 +56,14 @@ module _ (o : Owners) where
 -- Of two instances of one pool of one open body the one before is older.
 abbrev pub OlderInBody : Seated → Seated → Type 0
 OlderInBody x y = x.body ≡ y.body → x.seat.pool ≡ y.seat.pool → x.seat.number < y.seat.number
+
+-- ---- slots that are open
+
+abbrev pub Elsewhere : OpenSlot → List OpenSlot → Type 0
+Elsewhere x [] = Unit {0}
+Elsewhere x (y ∷ ys) = (x ≢ y) × Elsewhere x ys
+
+-- each slot of an open body is open once
+abbrev pub EachOnce : List OpenSlot → Type 0
+EachOnce [] = Unit {0}
+EachOnce (x ∷ xs) = Elsewhere x xs × EachOnce xs

@@ -2,7 +2,7 @@
 //! leaf in lexical order. Each law is the contract of a function with an empty body.
 #![tactic(auto)]
 
-ghost use Rattle.ceu_order.specs.Laws.{FirstServedStands, FirstStands, OlderStand};
+ghost use Rattle.ceu_order.specs.Laws.{FirstServedStands, FirstStands, OlderInBodies, OlderStand};
 
 /// Where a configuration stands in the memory, the machine resumes the gate of the first leaf in lexical order that can run at a level, and finds none where
 /// there is none: its choice is never unclear.
@@ -18,4 +18,9 @@ pub fn first_served_stands()
 /// A pool's row and its spawner's frame tell which pool it is, so where the instances of each pool stand by age, they do so for the machine.
 pub fn older_stand()
     ensures { OlderStand }
+{}
+
+/// The instances of each pool stand by age in every tree whose instances stand in their pools, if no slot of an open body is open twice.
+pub fn older_in_bodies()
+    ensures { OlderInBodies }
 {}
