@@ -1,10 +1,10 @@
 -- The instances of each pool stand by age, where no slot of an open body is open twice.
-use Rattle.std.proofs.Common.{◌≡◌, ◌≢◌, refl, sym, ap, ◌∙◌, subst, ◌<◌, ◌≤◌, ◌⊎◌, inl, inr, ℕ, Bool, true, false, ◌==◌, List, [], ◌∷◌, ◌++◌, arith, eqb-true, append_assoc}
+use Rattle.std.proofs.Common.{◌≡◌, ◌≢◌, refl, sym, ap, ◌∙◌, subst, ◌⊎◌, inl, inr, ℕ, true, ◌==◌, List, [], ◌∷◌, ◌++◌, arith, append_assoc}
 use Rattle.std.specs.Prelude.{nat_lt, ◌&&◌, not}
 use Rattle.std.proofs.lemmas.Bool.{false≢true, and_parts, or_cases, ltb-true}
 use Rattle.ceu_tree.specs.declared.kernel.KCode.{KCode}
 use Rattle.ceu_tree.specs.declared.kernel.KDecl.{KDecl}
-use Rattle.ceu_tree.specs.declared.kernel.KBlock.{KBlock, out-KBlock}
+use Rattle.ceu_tree.specs.declared.kernel.KBlock.{out-KBlock}
 use Rattle.ceu_tree.specs.declared.kernel.KStmt.{out-KStmt}
 use Rattle.ceu_tree.specs.Residual.{Body, Program, Awaited, Spawned, Seat, Residual, Over, Run, WaitInput, WaitTime, WaitEvent, WaitForever, InAsync, Block, Open, Loop, Call, Par, Branches, no_branch, branch, Instances, no_instance, instance}
 use Rattle.ceu_tree.specs.Leaf.{code_at}
@@ -14,7 +14,7 @@ use Rattle.ceu_order.specs.Laid.{BeforeAll, InOrder}
 use Rattle.ceu_order.specs.Told.{OlderInBody, Elsewhere, EachOnce}
 use Rattle.ceu_order.specs.Laws.{OlderInBodies}
 use Rattle.ceu_order.proofs.Older.{Among}
-use Rattle.ceu_order.proofs.Places.{PlaceHere, has_cases}
+use Rattle.ceu_order.proofs.Places.{has_cases}
 use Rattle.ceu_order.proofs.Bodies.{among_either}
 
 -- ---- open slots
@@ -93,7 +93,7 @@ slots_same x y e f = ap (λ (b : Body). record { body = b; slot = x.seat.pool })
 
 order_append : (a b : List Seated) → InOrder OlderInBody a → InOrder OlderInBody b → ((x y : Seated) → Among x a → Among y b → OlderInBody x y) → InOrder OlderInBody (a ++ b)
 order_append [] b h k f = k
-order_append (x ∷ a) b h k f = (before_append a h.0 (λ y j. f x y (inl refl) j) , order_append a b h.1 k (λ y z i j. f y z (inr i) j))
+order_append (x ∷ a) b h k f = (before_append a h.0 (λ y j. f x y (inl refl) j), order_append a b h.1 k (λ y z i j. f y z (inr i) j))
   where
     before_all : (c : List Seated) → ((y : Seated) → Among y c → OlderInBody x y) → BeforeAll OlderInBody x c
     before_all [] g = tt
@@ -172,7 +172,7 @@ module _ (codes : List KCode) where
         inl (record { seat = seat; is = e; placed = p.0; before = λ a q. (and_parts (is_before a seat) (goes_before a more) q).0 })
     own_or_inside (instance seat r more) decls body p x (inr i) = elim (among_either x (seats r (Spawned seat.number)) (instance_seats more body) i) [
       | inl j ↦
-        inr (in_three (slot_of x) (code_open (Spawned seat.number) (code_at seat.code codes)) (open_slots codes r (Spawned seat.number)) (instances_open codes more) (in_right (slot_of x) (code_open (Spawned seat.number) (code_at seat.code codes)) (open_slots codes r (Spawned seat.number) ++ instances_open codes more) (in_left (slot_of x) (open_slots codes r (Spawned seat.number)) (instances_open codes more) (slots_open r (Spawned seat.number) p.2 x j))))
+          inr (in_three (slot_of x) (code_open (Spawned seat.number) (code_at seat.code codes)) (open_slots codes r (Spawned seat.number)) (instances_open codes more) (in_right (slot_of x) (code_open (Spawned seat.number) (code_at seat.code codes)) (open_slots codes r (Spawned seat.number) ++ instances_open codes more) (in_left (slot_of x) (open_slots codes r (Spawned seat.number)) (instances_open codes more) (slots_open r (Spawned seat.number) p.2 x j))))
       | inr j ↦ elim (own_or_inside more decls body p.3 x j) [
         | inl o ↦ inl (record { seat = o.seat; is = o.is; placed = o.placed; before = λ a q. o.before a (and_parts (is_before a seat) (goes_before a more) q).1 })
         | inr k ↦ inr (in_three (slot_of x) (code_open (Spawned seat.number) (code_at seat.code codes)) (open_slots codes r (Spawned seat.number)) (instances_open codes more) (in_right (slot_of x) (code_open (Spawned seat.number) (code_at seat.code codes)) (open_slots codes r (Spawned seat.number) ++ instances_open codes more) (in_right (slot_of x) (open_slots codes r (Spawned seat.number)) (instances_open codes more) k)))
@@ -194,14 +194,14 @@ module _ (codes : List KCode) where
         let parts : EachOnce (instances_open codes all ++ open_slots codes r body) = once_right (decls_open body (out-KBlock b).decls) (instances_open codes all ++ open_slots codes r body) (once_three (decls_open body (out-KBlock b).decls) (instances_open codes all) (open_slots codes r body) d) in
         let apart = once_apart (decls_open body (out-KBlock b).decls) (instances_open codes all ++ open_slots codes r body) (once_three (decls_open body (out-KBlock b).decls) (instances_open codes all) (open_slots codes r body) d) in
         order_append (instance_seats all body) (seats r body)
-            (older_among all (out-KBlock b).decls body p.0 (once_left (instances_open codes all) (open_slots codes r body) parts) (apart_left (decls_open body (out-KBlock b).decls) (instances_open codes all) (open_slots codes r body) apart))
-            (older_in r body p.1 (once_right (instances_open codes all) (open_slots codes r body) parts))
-            (λ x y i j. elim (own_or_inside all (out-KBlock b).decls body p.0 x i) [
-              | inl o ↦
-                apart_older (decls_open body (out-KBlock b).decls) (open_slots codes r body) x y (apart_right (decls_open body (out-KBlock b).decls) (instances_open codes all) (open_slots codes r body) apart)
-                    (subst (λ (z : Seated). In (slot_of z) (decls_open body (out-KBlock b).decls)) (sym o.is) (declared (out-KBlock b).decls body o.seat o.placed)) (slots_open r body p.1 y j)
-              | inr k ↦ apart_older (instances_open codes all) (open_slots codes r body) x y (once_apart (instances_open codes all) (open_slots codes r body) parts) k (slots_open r body p.1 y j)
-            ])
+        (older_among all (out-KBlock b).decls body p.0 (once_left (instances_open codes all) (open_slots codes r body) parts) (apart_left (decls_open body (out-KBlock b).decls) (instances_open codes all) (open_slots codes r body) apart))
+        (older_in r body p.1 (once_right (instances_open codes all) (open_slots codes r body) parts))
+        (λ x y i j. elim (own_or_inside all (out-KBlock b).decls body p.0 x i) [
+          | inl o ↦
+              apart_older (decls_open body (out-KBlock b).decls) (open_slots codes r body) x y (apart_right (decls_open body (out-KBlock b).decls) (instances_open codes all) (open_slots codes r body) apart)
+              (subst (λ (z : Seated). In (slot_of z) (decls_open body (out-KBlock b).decls)) (sym o.is) (declared (out-KBlock b).decls body o.seat o.placed)) (slots_open r body p.1 y j)
+          | inr k ↦ apart_older (instances_open codes all) (open_slots codes r body) x y (once_apart (instances_open codes all) (open_slots codes r body) parts) k (slots_open r body p.1 y j)
+        ])
     older_in (Open s r) body p d = older_in r body p d
     older_in (Loop s c r) body p d = older_in r body p (once_right (loop_open body (out-KStmt s.stmt)) (open_slots codes r body) d)
     older_in (Call s r) body p d = older_in r (Awaited body s.node) p (once_right (code_open (Awaited body s.node) (called_code codes (out-KStmt s.stmt))) (open_slots codes r (Awaited body s.node)) d)
@@ -211,7 +211,7 @@ module _ (codes : List KCode) where
     older_branches no_branch body p d = tt
     older_branches (branch r more) body p d =
         order_append (seats r body) (branch_seats more body) (older_in r body p.0 (once_left (open_slots codes r body) (branches_open codes more body) d)) (older_branches more body p.1 (once_right (open_slots codes r body) (branches_open codes more body) d))
-            (λ x y i j. apart_older (open_slots codes r body) (branches_open codes more body) x y (once_apart (open_slots codes r body) (branches_open codes more body) d) (slots_open r body p.0 x i) (branch_slots more body p.1 y j))
+        (λ x y i j. apart_older (open_slots codes r body) (branches_open codes more body) x y (once_apart (open_slots codes r body) (branches_open codes more body) d) (slots_open r body p.0 x i) (branch_slots more body p.1 y j))
 
     older_among : (all : Instances) (decls : List KDecl) (body : Body) → seats_stand decls all → EachOnce (instances_open codes all) → Apart (decls_open body decls) (instances_open codes all) → InOrder OlderInBody (instance_seats all body)
     older_among no_instance decls body p d a = tt
@@ -219,22 +219,21 @@ module _ (codes : List KCode) where
         let rest : EachOnce (open_slots codes r (Spawned seat.number) ++ instances_open codes more) = once_right (code_open (Spawned seat.number) (code_at seat.code codes)) (open_slots codes r (Spawned seat.number) ++ instances_open codes more) (once_three (code_open (Spawned seat.number) (code_at seat.code codes)) (open_slots codes r (Spawned seat.number)) (instances_open codes more) d) in
         let apart : Apart (decls_open body decls) (open_slots codes r (Spawned seat.number) ++ instances_open codes more) = apart_right (decls_open body decls) (code_open (Spawned seat.number) (code_at seat.code codes)) (open_slots codes r (Spawned seat.number) ++ instances_open codes more) (apart_three (decls_open body decls) (code_open (Spawned seat.number) (code_at seat.code codes)) (open_slots codes r (Spawned seat.number)) (instances_open codes more) a) in
         let from_own : Apart (decls_open body decls) (open_slots codes r (Spawned seat.number)) = apart_left (decls_open body decls) (open_slots codes r (Spawned seat.number)) (instances_open codes more) apart in
-        let own_here : In (slot_of (record { seat = seat; body = body })) (decls_open body decls) = declared decls body seat p.0 in
-        (
+        let own_here : In (slot_of (record { seat = seat; body = body })) (decls_open body decls) = declared decls body seat p.0 in (
           before_those (record { seat = seat; body = body }) (seats r (Spawned seat.number) ++ instance_seats more body) (λ y i. elim (among_either y (seats r (Spawned seat.number)) (instance_seats more body) i) [
             | inl j ↦ apart_older (decls_open body decls) (open_slots codes r (Spawned seat.number)) (record { seat = seat; body = body }) y from_own own_here (slots_open r (Spawned seat.number) p.2 y j)
             | inr j ↦ elim (own_or_inside more decls body p.3 y j) [
               | inl o ↦ subst (OlderInBody (record { seat = seat; body = body })) (sym o.is) (seats_older body seat o.seat (o.before seat p.1))
               | inr k ↦
-                apart_older (decls_open body decls) (instances_open codes more) (record { seat = seat; body = body }) y (apart_right (decls_open body decls) (open_slots codes r (Spawned seat.number)) (instances_open codes more) apart) own_here k
+                  apart_older (decls_open body decls) (instances_open codes more) (record { seat = seat; body = body }) y (apart_right (decls_open body decls) (open_slots codes r (Spawned seat.number)) (instances_open codes more) apart) own_here k
             ]
           ]),
           order_append (seats r (Spawned seat.number)) (instance_seats more body) (older_in r (Spawned seat.number) p.2 (once_left (open_slots codes r (Spawned seat.number)) (instances_open codes more) rest))
               (older_among more decls body p.3 (once_right (open_slots codes r (Spawned seat.number)) (instances_open codes more) rest) (apart_right (decls_open body decls) (open_slots codes r (Spawned seat.number)) (instances_open codes more) apart))
               (λ x y i j. elim (own_or_inside more decls body p.3 y j) [
                 | inl o ↦
-                  apart_younger (decls_open body decls) (open_slots codes r (Spawned seat.number)) x y from_own (slots_open r (Spawned seat.number) p.2 x i)
-                      (subst (λ (z : Seated). In (slot_of z) (decls_open body decls)) (sym o.is) (declared decls body o.seat o.placed))
+                    apart_younger (decls_open body decls) (open_slots codes r (Spawned seat.number)) x y from_own (slots_open r (Spawned seat.number) p.2 x i)
+                    (subst (λ (z : Seated). In (slot_of z) (decls_open body decls)) (sym o.is) (declared decls body o.seat o.placed))
                 | inr k ↦ apart_older (open_slots codes r (Spawned seat.number)) (instances_open codes more) x y (once_apart (open_slots codes r (Spawned seat.number)) (instances_open codes more) rest) (slots_open r (Spawned seat.number) p.2 x i) k
               ]),
         )

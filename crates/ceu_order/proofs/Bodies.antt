@@ -1,5 +1,5 @@
 -- The frame of an open body and its code tell which body it is, so a row and a spawner's frame tell a pool of an open body.
-use Rattle.std.proofs.Common.{◌≡◌, ◌≢◌, refl, sym, ap, ◌∙◌, subst, ◌<◌, ◌≤◌, ◌⊎◌, inl, inr, ℕ, ◌+◌, Bool, true, false, List, [], ◌∷◌, ◌++◌, Option, Some, None, arith}
+use Rattle.std.proofs.Common.{◌≡◌, ◌≢◌, refl, sym, ap, ◌∙◌, subst, ◌⊎◌, inl, inr, ℕ, ◌+◌, true, List, [], ◌∷◌, ◌++◌, Option, Some, None}
 use Rattle.ceu_code.specs.declared.image.Image.{Image}
 use Rattle.ceu_isa.specs.Pools.{return_of, outer_frame}
 use Rattle.ceu_isa.specs.Order.{number_of}
@@ -7,11 +7,11 @@ use Rattle.ceu_tree.specs.declared.kernel.KDecl.{KDecl}
 use Rattle.ceu_tree.specs.declared.kernel.ParKind.{ParKind}
 use Rattle.ceu_tree.specs.declared.kernel.KBlock.{KBlock, out-KBlock}
 use Rattle.ceu_tree.specs.declared.kernel.KStmt.{out-KStmt}
-use Rattle.ceu_tree.specs.Residual.{Body, Program, Awaited, Spawned, Seat, Residual, Over, Run, WaitInput, WaitTime, WaitEvent, WaitForever, InAsync, Block, Open, Loop, Call, Par, Branches, no_branch, branch, Instances, no_instance, instance}
+use Rattle.ceu_tree.specs.Residual.{Body, Program, Awaited, Spawned, Residual, Over, Run, WaitInput, WaitTime, WaitEvent, WaitForever, InAsync, Block, Open, Loop, Call, Par, Branches, no_branch, branch, Instances, no_instance, instance}
 use Rattle.ceu_tree.specs.Around.{kind_of}
 use Rattle.ceu_tree.specs.Legal.{Seated, seats, branch_seats, instance_seats}
 use Rattle.ceu_stands.specs.Tables.{Tables}
-use Rattle.ceu_stands.specs.Views.{View, view, Home}
+use Rattle.ceu_stands.specs.Views.{view, Home}
 use Rattle.ceu_stands.specs.Parts.{finalizers, par_blocks, par_slot}
 use Rattle.ceu_stands.specs.Stands.{Stands, SeatsStand, BranchesStand}
 use Rattle.ceu_order.specs.Laid.{Laid, SeatsLaid, BranchesLaid, BeforeAll, InOrder}
@@ -104,7 +104,7 @@ module _ (image : Image) (bytes : List ℕ) (t : Tables) (home : Body → Home) 
     seats_open (Call n r) body low high code s l q b x i =
         let z = call_back image bytes t home n body low _ _ s l in
         seats_open r (Awaited body n.node) low high (Some (called_code (out-KStmt n.stmt))) s.inner l.inner q.inner
-            (record { of = called_code (out-KStmt n.stmt); caller = code; code_is = refl; is_await = q.is_await; stands_in = q.stands_in; caller_open = b; back = z.0; no_mark = l.goes_back; outer = z.1 }) x i
+        (record { of = called_code (out-KStmt n.stmt); caller = code; code_is = refl; is_await = q.is_await; stands_in = q.stands_in; caller_open = b; back = z.0; no_mark = l.goes_back; outer = z.1 }) x i
     seats_open (Par n bs) body low high code s l q b x i =
         branches_open (kind_of (out-KStmt n.stmt)) (par_slot (out-KStmt n.stmt)) (par_blocks (out-KStmt n.stmt)) bs body low (low + t.count n.node) code s.inner l q b x i
 
@@ -115,8 +115,8 @@ module _ (image : Image) (bytes : List ℕ) (t : Tables) (home : Body → Home) 
         subst PoolOpen (sym e) (record { code = code; is_open = b; is_pool = q.0.is_pool; stands_in = q.0.stands_in })
     instances_open (instance seat r more) decls body pools code s l q b x (inr i) = elim (among_either x (seats r (Spawned seat.number)) (instance_seats more body) i) [
       | inl j ↦
-        seats_open r (Spawned seat.number) _ _ (Some seat.code) s.0.inner l.0.inner q.0.inner
-            (record { of = seat.code; code_is = refl; mark = seat_marked image bytes t home seat decls body pools _ _ s.0 l.0; number_is = (seat_known image bytes t home seat decls body pools _ _ s.0 l.0).number_is }) x j
+          seats_open r (Spawned seat.number) _ _ (Some seat.code) s.0.inner l.0.inner q.0.inner
+          (record { of = seat.code; code_is = refl; mark = seat_marked image bytes t home seat decls body pools _ _ s.0 l.0; number_is = (seat_known image bytes t home seat decls body pools _ _ s.0 l.0).number_is }) x j
       | inr j ↦ instances_open more decls body pools code s.1 l.1 q.1 b x j
     ]
 

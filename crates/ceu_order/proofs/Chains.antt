@@ -1,11 +1,11 @@
 -- The chain of instances around a frame, from the link that leads out of the frame.
-use Rattle.std.proofs.Common.{◌≡◌, ◌≢◌, refl, sym, ap, ◌∙◌, subst, ◌<◌, ◌≤◌, ℕ, zero, suc, ◌+◌, ◌-◌, Bool, true, false, ◌==◌, List, [], ◌∷◌, ◌++◌, Option, Some, None, arith}
-use Rattle.std.specs.Prelude.{◌&&◌, ◌||◌, not, nat_lt, nat_le, if◌then◌else◌}
+use Rattle.std.proofs.Common.{◌≡◌, refl, sym, ap, ◌∙◌, ◌<◌, ◌≤◌, ℕ, zero, suc, ◌-◌, Bool, true, false, ◌==◌, List, [], ◌∷◌, ◌++◌, Option, Some, None, arith}
+use Rattle.std.specs.Prelude.{if◌then◌else◌}
 use Rattle.std.specs.Option.{option_map}
 use Rattle.std.proofs.lemmas.Bool.Decides.{nat_tests}
 use Rattle.ceu_code.specs.declared.image.Image.{Image}
-use Rattle.ceu_isa.specs.Layout.{slots_at, end_of, in_slots}
-use Rattle.ceu_isa.specs.Pools.{return_of, outer_frame}
+use Rattle.ceu_isa.specs.Layout.{slots_at, in_slots}
+use Rattle.ceu_isa.specs.Pools.{outer_frame}
 use Rattle.ceu_isa.specs.Order.{is_instance, leads_down, with_frame, chain_in, chain}
 
 module _ (image : Image) (bytes : List ℕ) where
@@ -36,7 +36,7 @@ module _ (image : Image) (bytes : List ℕ) where
   more_links (suc n) zero f c le e = absurd (omega arith)
   more_links (suc n) (suc m) f c le e =
       link_is m f ∙ grown (f == slots_at image) (leads_down image bytes f) f (chain_in n image bytes (outer_frame bytes f)) (chain_in m image bytes (outer_frame bytes f)) c
-          (λ d q. more_links n m (outer_frame bytes f) d (omega arith) q) (sym (link_is n f) ∙ e)
+      (λ d q. more_links n m (outer_frame bytes f) d (omega arith) q) (sym (link_is n f) ∙ e)
 
   pub chain_of_root : chain image bytes (slots_at image) ≡ Some []
   chain_of_root = link_is (slots_at image) (slots_at image) ∙ go (slots_at image == slots_at image) (grind (arith, nat_tests))

@@ -1,12 +1,12 @@
 -- The first of some gates, told by what each of them is to the others.
-use Rattle.std.proofs.Common.{◌≡◌, ◌≢◌, refl, sym, ap, ◌∙◌, subst, ◌<◌, ◌≤◌, ◌⊎◌, inl, inr, ℕ, zero, suc, ◌+◌, Bool, true, false, ◌==◌, List, [], ◌∷◌, arith, eqb-true, eq-eqb}
-use Rattle.std.specs.Prelude.{◌&&◌, ◌||◌}
+use Rattle.std.proofs.Common.{◌≡◌, ◌≢◌, refl, sym, ap, ◌∙◌, subst, ◌<◌, ◌≤◌, inl, inr, ℕ, zero, suc, ◌+◌, Bool, true, false, ◌==◌, List, [], ◌∷◌, arith, eqb-true, eq-eqb}
+use Rattle.std.specs.Prelude.{◌||◌}
 use Rattle.std.specs.List.{list_all}
 use Rattle.std.proofs.lemmas.Bool.{false≢true, and_parts, and_from, or_cases, or_left, or_right}
 use Rattle.ceu_code.specs.declared.image.Image.{Image}
 use Rattle.ceu_mem.specs.declared.gate.Gate.{Gate}
 use Rattle.ceu_isa.specs.Layout.{gate_of, gates_from}
-use Rattle.ceu_isa.specs.Order.{before, Choice, Nowhere, Unclear, Chosen, is_first, found, first_of}
+use Rattle.ceu_isa.specs.Order.{before, Choice, Unclear, Chosen, is_first, found, first_of}
 
 module _ (image : Image) (bytes : List ℕ) (test : Gate → Bool) where
   abbrev if_passes : Bool → ℕ → List ℕ → List ℕ

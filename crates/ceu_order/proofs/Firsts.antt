@@ -1,32 +1,26 @@
 -- The leaf that is chosen goes before all others that might be.
-use Rattle.std.proofs.Common.{◌≡◌, ◌≢◌, refl, sym, ap, ◌∙◌, subst, ◌<◌, ◌≤◌, ◌⊎◌, inl, inr, ℕ, zero, suc, ◌+◌, ◌*◌, Bool, true, false, ◌==◌, List, [], ◌∷◌, ◌++◌, length, Option, Some, None, arith, eqb-true, eq-eqb}
-use Rattle.std.specs.Prelude.{nat_lt, ◌&&◌, ◌||◌, not}
-use Rattle.std.proofs.lemmas.Bool.{false≢true, cases_lt, and_parts, and_from, or_cases, lt-ltb, ltb-true}
+use Rattle.std.proofs.Common.{◌≡◌, sym, ap, ◌∙◌, subst, ◌<◌, ◌≤◌, ◌⊎◌, inl, inr, ℕ, ◌+◌, Bool, true, false, ◌==◌, List, [], ◌∷◌, Option, Some, None, arith, eqb-true, eq-eqb}
+use Rattle.std.specs.Prelude.{nat_lt, ◌&&◌, not}
+use Rattle.std.proofs.lemmas.Bool.{false≢true, and_parts, and_from, or_cases, lt-ltb, ltb-true}
 use Rattle.ceu_code.specs.declared.image.Image.{Image}
 use Rattle.ceu_mem.specs.declared.gate.Gate.{Gate}
 use Rattle.ceu_isa.specs.Pools.{outer_frame}
 use Rattle.ceu_isa.specs.Order.{pool_of, of_one_pool, earlier}
 use Rattle.ceu_tree.specs.declared.kernel.KDecl.{KDecl}
-use Rattle.ceu_tree.specs.declared.kernel.ParKind.{ParKind}
-use Rattle.ceu_tree.specs.declared.kernel.KNode.{KNode}
-use Rattle.ceu_tree.specs.declared.kernel.KBlock.{KBlock, out-KBlock}
-use Rattle.ceu_tree.specs.declared.kernel.KStmt.{out-KStmt}
-use Rattle.ceu_tree.specs.Residual.{Body, Awaited, Spawned, Seat, Residual, Over, Run, WaitInput, WaitTime, WaitEvent, WaitForever, InAsync, Block, Open, Loop, Call, Par, Branches, no_branch, branch, Instances, no_instance, instance}
-use Rattle.ceu_tree.specs.Focus.{Frame, OfBlock, OfInstance, OfOpen, OfLoop, OfCall, OfPar, Focus, Here, In, here, under, or_else, ChosenBranch, no_chosen_branch, chosen_branch, ChosenInstance, no_chosen_instance, chosen_instance, first_branch, first_instance, in_par, in_block, choose, choose_branch, choose_instance}
-use Rattle.ceu_tree.specs.Around.{kind_of}
-use Rattle.ceu_tree.specs.Legal.{Seated, seats, branch_seats, instance_seats}
-use Rattle.ceu_living.specs.Instances.{has_place, is_before, goes_before, pools_stand, each_pools_stand, seats_stand}
+use Rattle.ceu_tree.specs.Residual.{Body, Spawned, Seat, Residual, Instances, instance}
+use Rattle.ceu_tree.specs.Focus.{Frame, Focus, here, under, ChosenInstance, no_chosen_instance, chosen_instance, first_instance}
+use Rattle.ceu_tree.specs.Legal.{Seated, seats, instance_seats}
+use Rattle.ceu_living.specs.Instances.{has_place, is_before, pools_stand, seats_stand}
 use Rattle.ceu_stands.specs.Tables.{Tables}
-use Rattle.ceu_stands.specs.Views.{View, view, Free, Home}
+use Rattle.ceu_stands.specs.Views.{view, Home}
 use Rattle.ceu_stands.specs.Leaves.{LeafStands}
-use Rattle.ceu_stands.specs.Parts.{finalizers, pools_gates, pool_gate, par_blocks, par_slot}
-use Rattle.ceu_stands.specs.Stands.{Stands, SeatsStand, BranchesStand, BlockStands, SeatStands, CallStands, BranchStands}
-use Rattle.ceu_stands.specs.Frames.{Spot, spot, SeatsAround, BranchesAround, FrameStands, FocusStands}
-use Rattle.ceu_order.specs.Laid.{Ascend, Laid, SeatsLaid, BranchesLaid, SeatLaid, InOrder}
-use Rattle.ceu_order.proofs.Older.{earlier_behind, order_left, order_right, before_left, before_right, before_at, among_left, among_right, Among, frame_of, frames, Known, Older, goes, Head, goes_across}
-use Rattle.ceu_order.proofs.Places.{seat_gate, seat_within, seats_apart, pool_from, InSeats}
+use Rattle.ceu_stands.specs.Stands.{Stands, SeatsStand}
+use Rattle.ceu_stands.specs.Frames.{Spot, spot, SeatsAround, FrameStands, FocusStands}
+use Rattle.ceu_order.specs.Laid.{Ascend, Laid, SeatsLaid, InOrder}
+use Rattle.ceu_order.proofs.Older.{earlier_behind, before_right, before_at, frame_of, frames, Known, Older, goes}
+use Rattle.ceu_order.proofs.Places.{seat_gate, seats_apart, InSeats}
 use Rattle.ceu_order.proofs.Trails.{Picks}
-use Rattle.ceu_order.proofs.Within.{branch_cases, Trail, SeatTrail, wider, seat_trail, in_call, first_seat, later_seat, Tested, ended_passed, not_in, leaf_at, leaf_trail, block_at, trail_in, seats_trail, branches_trail}
+use Rattle.ceu_order.proofs.Within.{Trail, SeatTrail, first_seat, later_seat, Tested, leaf_at, leaf_trail, seats_trail}
 
 module _ (image : Image) (bytes : List ℕ) (t : Tables) (home : Body → Home) (A : Type 0) (pick : Residual → Option A) (test : Gate → Bool) (picks : Picks A pick test t) where
   abbrev pub Passes : ℕ → Type 0
@@ -91,13 +85,13 @@ module _ (image : Image) (bytes : List ℕ) (t : Tables) (home : Body → Home) 
         passes = x.passes;
         at = λ d q. x.at d (subst (λ (e : Spot). FocusStands t home (view image bytes) f e.body e.low e.high d) (i.goes q.0 q.1) q.2);
         others = λ h a b p.
-        let c = i.covers h a b p in
-        elim (x.others h c.0 c.1 p) [
-          | inl e ↦ inl e
-          | inr y ↦
-            let u = i.trails h y.0 in
-            inr (u.0, ap (λ (xs : List Seated). earlier bytes (frames t home bytes xs) (frames t home bytes u.0.around) (nat_lt x.gate h)) z.1 ∙ ap (λ (ys : List Seated). earlier bytes (frames t home bytes x.trail.around) (frames t home bytes ys) (nat_lt x.gate h)) u.1 ∙ y.1)
-        ];
+            let c = i.covers h a b p in
+            elim (x.others h c.0 c.1 p) [
+              | inl e ↦ inl e
+              | inr y ↦
+                  let u = i.trails h y.0 in
+                  inr (u.0, ap (λ (xs : List Seated). earlier bytes (frames t home bytes xs) (frames t home bytes u.0.around) (nat_lt x.gate h)) z.1 ∙ ap (λ (ys : List Seated). earlier bytes (frames t home bytes x.trail.around) (frames t home bytes ys) (nat_lt x.gate h)) u.1 ∙ y.1)
+            ];
       }
 
   -- ---- of some instances
@@ -130,11 +124,11 @@ module _ (image : Image) (bytes : List ℕ) (t : Tables) (home : Body → Home) 
       lower e = elim (or_cases (nat_lt a.pool b.pool) ((a.pool == b.pool) && nat_lt a.number b.number && not (a.place == b.place)) ab) [
         | inl l ↦ let z = seats_apart t 0 decls pools a b up pa pb (ltb-true a.pool b.pool l) in lt-ltb g h (omega (arith, z, to, from))
         | inr l ↦
-          let same = eqb-true a.pool b.pool (and_parts (a.pool == b.pool) (nat_lt a.number b.number) (and_parts ((a.pool == b.pool) && nat_lt a.number b.number) (not (a.place == b.place)) l).0).0 in
-          let fa = frame_of t home bytes (record { seat = a; body = body }) in
-          let fb = frame_of t home bytes (record { seat = b; body = body }) in
-          let one = and_from (pool_of bytes fa == pool_of bytes fb) (outer_frame bytes fa == outer_frame bytes fb) (eq-eqb (pool_of bytes fa) (pool_of bytes fb) (ka.pool_is ∙ ap t.pool same ∙ sym kb.pool_is)) (eq-eqb (outer_frame bytes fa) (outer_frame bytes fb) (ka.outer_is ∙ sym kb.outer_is)) in
-          absurd (false≢true (sym e ∙ one))
+            let same = eqb-true a.pool b.pool (and_parts (a.pool == b.pool) (nat_lt a.number b.number) (and_parts ((a.pool == b.pool) && nat_lt a.number b.number) (not (a.place == b.place)) l).0).0 in
+            let fa = frame_of t home bytes (record { seat = a; body = body }) in
+            let fb = frame_of t home bytes (record { seat = b; body = body }) in
+            let one = and_from (pool_of bytes fa == pool_of bytes fb) (outer_frame bytes fa == outer_frame bytes fb) (eq-eqb (pool_of bytes fa) (pool_of bytes fb) (ka.pool_is ∙ ap t.pool same ∙ sym kb.pool_is)) (eq-eqb (outer_frame bytes fa) (outer_frame bytes fb) (ka.outer_is ∙ sym kb.outer_is)) in
+            absurd (false≢true (sym e ∙ one))
       ]
 
   pub seat_first : (decls : List KDecl) (body : Body) (pools : ℕ) (seat : Seat) (r : Residual) (more : Instances)
@@ -163,12 +157,12 @@ module _ (image : Image) (bytes : List ℕ) (t : Tables) (home : Body → Home) 
       | inl z ↦ elim (u.others h z.0 z.1 q) [
         | inl e ↦ inl e
         | inr y ↦
-          inr (first_seat image bytes t home decls body pools seat r more h _ _ _ x.0 l.0 p.0 z.0 z.1 y.0, earlier_behind bytes (frame_of t home bytes (record { seat = seat; body = body }) ∷ []) (frames t home bytes u.trail.around) (frames t home bytes y.0.around) (nat_lt u.gate h) ∙ y.1)
+            inr (first_seat image bytes t home decls body pools seat r more h _ _ _ x.0 l.0 p.0 z.0 z.1 y.0, earlier_behind bytes (frame_of t home bytes (record { seat = seat; body = body }) ∷ []) (frames t home bytes u.trail.around) (frames t home bytes y.0.around) (nat_lt u.gate h) ∙ y.1)
       ]
       | inr z ↦
-        let y = seats_trail image bytes t home A pick test picks more decls body pools h x.1 l.1 p.3 z q in
-        let a = first_seat image bytes t home decls body pools seat r more u.gate _ _ _ x.0 l.0 p.0 u.from u.to u.trail in
-        let o = before_at (Older t home bytes) (record { seat = seat; body = body }) (record { seat = y.seat; body = body }) (instance_seats more body) (before_right (Older t home bytes) (record { seat = seat; body = body }) (seats r (Spawned seat.number)) (instance_seats more body) w.0) y.among in
-        inr (later_seat image bytes t home decls body pools seat r more h y, seats_go decls body pools seat y.seat u.trail.around y.inner u.gate h up p.0 y.placed (y.before seat p.1) a.known y.known o u.to y.from)
+          let y = seats_trail image bytes t home A pick test picks more decls body pools h x.1 l.1 p.3 z q in
+          let a = first_seat image bytes t home decls body pools seat r more u.gate _ _ _ x.0 l.0 p.0 u.from u.to u.trail in
+          let o = before_at (Older t home bytes) (record { seat = seat; body = body }) (record { seat = y.seat; body = body }) (instance_seats more body) (before_right (Older t home bytes) (record { seat = seat; body = body }) (seats r (Spawned seat.number)) (instance_seats more body) w.0) y.among in
+          inr (later_seat image bytes t home decls body pools seat r more h y, seats_go decls body pools seat y.seat u.trail.around y.inner u.gate h up p.0 y.placed (y.before seat p.1) a.known y.known o u.to y.from)
     ];
   }

@@ -1,19 +1,18 @@
 -- The gates of a block's pools: each one that isn't free is one of an instance, and those of the instances stand as the instances do.
 use Rattle.std.proofs.Common.{◌≡◌, ◌≢◌, refl, sym, ap, ◌∙◌, subst, ◌<◌, ◌≤◌, ◌⊎◌, inl, inr, ℕ, zero, suc, ◌+◌, ◌*◌, Bool, true, false, ◌==◌, List, [], ◌∷◌, arith, eqb-true, eq-eqb, suc-mul}
 use Rattle.std.specs.Prelude.{◌&&◌, ◌||◌, nat_lt, if◌then◌else◌}
-use Rattle.std.proofs.lemmas.Bool.{false≢true, and_parts, and_from, or_cases, or_left, or_right, cases_lt, ltb-true}
-use Rattle.ceu_mem.specs.declared.gate.Gate.{Gate}
+use Rattle.std.proofs.lemmas.Bool.{false≢true, and_parts, or_cases, cases_lt, ltb-true}
 use Rattle.ceu_isa.specs.Layout.{free}
 use Rattle.ceu_tree.specs.declared.kernel.KDecl.{KDecl}
 use Rattle.ceu_tree.specs.declared.kernel.KKind.{KKind}
 use Rattle.ceu_tree.specs.declared.kernel.KKind.TheVariants as kind
-use Rattle.ceu_tree.specs.Residual.{Seat, Residual, Instances, no_instance, instance}
+use Rattle.ceu_tree.specs.Residual.{Seat, Instances, no_instance, instance}
 use Rattle.ceu_tree.specs.World.{is_among}
 use Rattle.ceu_tree.specs.Step.{taken_in}
-use Rattle.ceu_living.specs.Instances.{has_place, is_before, goes_before, pools_stand, seats_stand}
+use Rattle.ceu_living.specs.Instances.{has_place, pools_stand, seats_stand}
 use Rattle.ceu_stands.specs.Tables.{Tables}
-use Rattle.ceu_stands.specs.Views.{View, Free, Home}
-use Rattle.ceu_stands.specs.Parts.{decl_gates, pools_gates, pool_gate, VacantIn, Vacant, VacantPlace, place_at}
+use Rattle.ceu_stands.specs.Views.{View, Home}
+use Rattle.ceu_stands.specs.Parts.{decl_gates, pools_gates, pool_gate, VacantIn, Vacant}
 use Rattle.ceu_order.specs.Laid.{Ascend}
 
 -- ---- declared places
@@ -96,7 +95,7 @@ module _ (t : Tables) where
   seat_within from (d ∷ ds) low seat a e = elim (has_cases d ds seat e) [
     | inl h ↦ let p = here_within d seat h in let q = head_gate d ds seat.pool low h.pool_is in omega (arith, p, q)
     | inr h ↦
-      let p = placed_from (suc d.slot) ds seat a.1 h in let q = tail_gate d ds seat.pool low p in let r = seat_within (suc d.slot) ds (low + decl_gates t d.kind) seat a.1 h in omega (arith, q, r)
+        let p = placed_from (suc d.slot) ds seat a.1 h in let q = tail_gate d ds seat.pool low p in let r = seat_within (suc d.slot) ds (low + decl_gates t d.kind) seat a.1 h in omega (arith, q, r)
   ]
 
   -- of two pools of a block the one with the lower slot has the lower gates
@@ -143,12 +142,12 @@ module _ (t : Tables) where
       go true q k ih = elim (or_cases (p.place == seat.place) (is_among p.place (taken_in p.slot more)) k) [
         | inr z ↦ inr (ih z)
         | inl z ↦
-          let pool = eqb-true seat.pool p.slot q in
-          let code = p.one_code seat h.0 pool in
-          let at : seat_gate ds low seat ≡ pool_gate t p.slot ds low + p.place * t.gates p.code =
-          ap (λ (s : ℕ). pool_gate t s ds low + seat.place * t.gates seat.code) pool ∙ ap (λ (c : ℕ). pool_gate t p.slot ds low + seat.place * t.gates c) code
-          ∙ ap (λ (x : ℕ). pool_gate t p.slot ds low + x * t.gates p.code) (sym (eqb-true p.place seat.place z)) in
-          inl (omega (arith, at, p.from), omega (arith, at, p.to, ap t.gates code))
+            let pool = eqb-true seat.pool p.slot q in
+            let code = p.one_code seat h.0 pool in
+            let at : seat_gate ds low seat ≡ pool_gate t p.slot ds low + p.place * t.gates p.code =
+            ap (λ (s : ℕ). pool_gate t s ds low + seat.place * t.gates seat.code) pool ∙ ap (λ (c : ℕ). pool_gate t p.slot ds low + seat.place * t.gates c) code
+            ∙ ap (λ (x : ℕ). pool_gate t p.slot ds low + x * t.gates p.code) (sym (eqb-true p.place seat.place z)) in
+            inl (omega (arith, at, p.from), omega (arith, at, p.to, ap t.gates code))
       ]
 
   record PlaceAt (n size low g : ℕ) : Type 0 where
@@ -168,19 +167,21 @@ module _ (t : Tables) where
     in_pool : (slot n code low : ℕ) (d : KDecl) → d.kind ≡ kind.Pool n code → VacantIn t v h all low d (kind.Pool n code) → low ≤ g → g < low + n * t.gates code → (ds : List KDecl) → Ascend (suc d.slot) ds → (p : PlaceOf all (d ∷ ds) low g) × (p.slot ≡ d.slot)
     in_pool slot n code low d is vacant a b ds up =
         let p = place_of n (t.gates code) low g a b in
-        let q = head_gate d ds d.slot low refl in
-        (record {
-          slot = d.slot;
-          code = code;
-          place = p.place;
-          from = omega (arith, p.from, q);
-          to = omega (arith, p.to, q);
-          taken = go p (is_among p.place (taken_in d.slot all)) refl;
-          one_code = λ seat e f. elim (has_cases d ds seat e) [
-            | inl x ↦ let same : kind.Pool n code ≡ kind.Pool x.size seat.code = sym is ∙ x.is_pool in sym (cc)
-            | inr x ↦ let y = placed_from (suc d.slot) ds seat up x in absurd (omega (arith, y, f))
-          ];
-        }, refl)
+        let q = head_gate d ds d.slot low refl in (
+          record {
+            slot = d.slot;
+            code = code;
+            place = p.place;
+            from = omega (arith, p.from, q);
+            to = omega (arith, p.to, q);
+            taken = go p (is_among p.place (taken_in d.slot all)) refl;
+            one_code = λ seat e f. elim (has_cases d ds seat e) [
+              | inl x ↦ let same : kind.Pool n code ≡ kind.Pool x.size seat.code = sym is ∙ x.is_pool in sym (cc)
+              | inr x ↦ let y = placed_from (suc d.slot) ds seat up x in absurd (omega (arith, y, f))
+            ];
+          },
+          refl,
+        )
       where
         go : (p : PlaceAt n (t.gates code) low g) (b : Bool) → is_among p.place (taken_in d.slot all) ≡ b → is_among p.place (taken_in d.slot all) ≡ true
         go p true e = e

@@ -1,9 +1,7 @@
 -- The instances around the gate of each leaf, and the chain of its frame.
-use Rattle.std.proofs.Common.{◌≡◌, ◌≢◌, refl, sym, ap, ◌∙◌, subst, ◌<◌, ◌≤◌, ◌⊎◌, inl, inr, ℕ, zero, suc, ◌+◌, ◌*◌, ◌-◌, Bool, true, false, ◌==◌, List, [], ◌∷◌, ◌++◌, length, Option, Some, None, arith, append_assoc, eqb-true, eq-eqb}
-use Rattle.std.specs.Prelude.{nat_lt, nat_le, ◌&&◌, if◌then◌else◌}
-use Rattle.std.proofs.lemmas.Bool.{false≢true, cases_lt, eqb-false, ne_eqb, and_parts, and_from, leb-true, le-leb}
-use Rattle.std.proofs.lemmas.Bool.Decides.{nat_tests}
-use Rattle.std.proofs.lemmas.List.{append-nil}
+use Rattle.std.proofs.Common.{◌≡◌, ◌≢◌, refl, sym, ap, ◌∙◌, subst, ◌<◌, ◌≤◌, ◌⊎◌, inl, inr, ℕ, suc, ◌+◌, ◌-◌, Bool, true, false, ◌==◌, List, [], ◌∷◌, ◌++◌, Option, Some, None, arith}
+use Rattle.std.specs.Prelude.{nat_le, if◌then◌else◌}
+use Rattle.std.proofs.lemmas.Bool.{cases_lt, ne_eqb, and_parts, and_from, leb-true, le-leb}
 use Rattle.ceu_code.specs.declared.image.Image.{Image}
 use Rattle.ceu_mem.specs.declared.gate.Gate.{Gate}
 use Rattle.ceu_mem.specs.Bytes.{number_at}
@@ -11,24 +9,17 @@ use Rattle.ceu_isa.specs.Layout.{slots_at, end_of, in_slots, free, finalizer, fo
 use Rattle.ceu_isa.specs.Pools.{return_of, outer_frame}
 use Rattle.ceu_isa.specs.Order.{is_instance, chain}
 use Rattle.ceu_tree.specs.declared.kernel.KDecl.{KDecl}
-use Rattle.ceu_tree.specs.declared.kernel.ParKind.{ParKind}
-use Rattle.ceu_tree.specs.declared.kernel.ParKind.TheVariants as par
 use Rattle.ceu_tree.specs.declared.kernel.KNode.{KNode}
-use Rattle.ceu_tree.specs.declared.kernel.KBlock.{KBlock, out-KBlock}
 use Rattle.ceu_tree.specs.declared.kernel.KStmt.{out-KStmt}
-use Rattle.ceu_tree.specs.Residual.{Body, Awaited, Spawned, Act, Begin, Start, Finish, AtEnd, AtHead, Again, Seat, Residual, Over, Run, WaitInput, WaitTime, WaitEvent, WaitForever, InAsync, Block, Open, Loop, Call, Par, Branches, no_branch, branch, Instances, no_instance, instance}
-use Rattle.ceu_tree.specs.Around.{kind_of}
-use Rattle.ceu_tree.specs.Legal.{Seated, seats, branch_seats, instance_seats}
-use Rattle.ceu_living.specs.Instances.{has_place, is_before, goes_before, pools_stand, each_pools_stand, seats_stand}
+use Rattle.ceu_tree.specs.Residual.{Body, Awaited, Spawned, Act, Begin, Start, Finish, AtEnd, AtHead, Again, Seat, Residual, Over, Run, WaitInput, WaitTime, WaitEvent, WaitForever, InAsync, Block, Open, Loop, Call, Par}
 use Rattle.ceu_stands.specs.Tables.{Tables}
-use Rattle.ceu_stands.specs.Views.{View, view, slot_number, Free, Home, Keeps}
-use Rattle.ceu_stands.specs.Leaves.{LeafGate, LeafStands}
-use Rattle.ceu_stands.specs.Parts.{Registered, finalizers, pools_gates, pool_gate, place_at, Vacant, TakenPlace, frame_slot, Linked, EndedBranch, par_blocks, par_slot, by_branch}
-use Rattle.ceu_stands.specs.Stands.{Stands, SeatsStand, BranchesStand, BlockStands, SeatStands, CallStands, BranchStands}
-use Rattle.ceu_order.specs.Laid.{Laid, SeatsLaid, BranchesLaid, CallLaid, SeatLaid, BlockLaid}
-use Rattle.ceu_order.proofs.Chains.{lies, chain_of_call, chain_of_instance}
-use Rattle.ceu_order.proofs.Older.{Among, among_left, among_right, frame_of, frames, Known, Head}
-use Rattle.ceu_order.proofs.Places.{seat_gate, InSeats, in_seats}
+use Rattle.ceu_stands.specs.Views.{view, slot_number, Home}
+use Rattle.ceu_stands.specs.Leaves.{LeafGate}
+use Rattle.ceu_stands.specs.Parts.{place_at, frame_slot}
+use Rattle.ceu_stands.specs.Stands.{SeatStands, CallStands}
+use Rattle.ceu_order.specs.Laid.{CallLaid, SeatLaid}
+use Rattle.ceu_order.proofs.Chains.{chain_of_call, chain_of_instance}
+use Rattle.ceu_order.proofs.Older.{Known}
 
 -- Which leaves are picked, and by which test of their gates.
 pub record Picks (A : Type 0) (pick : Residual → Option A) (test : Gate → Bool) (t : Tables) : Type 0 where
@@ -132,8 +123,7 @@ module _ (image : Image) (bytes : List ℕ) where
     call_back s body low Inner Laid_in x l =
         let frame_is : (home (Awaited body s.node)).frame ≡ (home body).frame + t.offset (frame_slot (out-KStmt s.stmt)) = ap (λ (h : Home). h.frame) x.home_is in
         let f : ℕ = (home body).frame + t.offset (frame_slot (out-KStmt s.stmt)) in
-        let room : in_slots image ((home body).frame + t.offset (frame_slot (out-KStmt s.stmt))) 8 ≡ true = sym (ap (λ (n : ℕ). in_slots image n 8) frame_is) ∙ l.has_link in
-        (
+        let room : in_slots image ((home body).frame + t.offset (frame_slot (out-KStmt s.stmt))) 8 ≡ true = sym (ap (λ (n : ℕ). in_slots image n 8) frame_is) ∙ l.has_link in (
           ap (return_of bytes) frame_is ∙ seen_at 2 f (t.resumed s.node) (part_in f 8 f 2 room (omega arith) (omega arith)) x.linked.goes_back,
           ap (outer_frame bytes) frame_is ∙ seen_at 2 (f + 2) (home body).frame (part_in f 8 (f + 2) 2 room (omega arith) (omega arith)) x.linked.caller_frame,
         )

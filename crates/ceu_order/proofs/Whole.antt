@@ -1,26 +1,24 @@
 -- The gate that the machine chooses in a memory in which a configuration stands.
-use Rattle.std.proofs.Common.{◌≡◌, ◌≢◌, refl, sym, ap, ◌∙◌, subst, ◌<◌, ◌≤◌, ◌⊎◌, inl, inr, ℕ, ◌+◌, Bool, true, false, ◌==◌, List, [], ◌∷◌, ◌++◌, Option, Some, None, arith, eqb-true, eq-eqb}
+use Rattle.std.proofs.Common.{◌≡◌, ◌≢◌, refl, sym, ap, ◌∙◌, subst, ◌<◌, inl, inr, ℕ, Bool, true, false, ◌==◌, List, [], ◌∷◌, Option, Some, None, arith, eqb-true, eq-eqb}
 use Rattle.std.specs.Prelude.{nat_lt, not, ◌&&◌, ◌||◌, if◌then◌else◌}
-use Rattle.std.proofs.lemmas.Bool.{false≢true, lt-ltb, ne_eqb, and_from, not-true, not_from_false}
+use Rattle.std.proofs.lemmas.Bool.{false≢true, lt-ltb, ne_eqb, and_from}
 use Rattle.std.proofs.lemmas.Bool.Decides.{nat_tests}
 use Rattle.ceu_code.specs.declared.image.Image.{Image}
 use Rattle.ceu_mem.specs.declared.gate.Gate.{Gate}
 use Rattle.ceu_isa.specs.Layout.{slots_at, gate_of, gates_from, can_run, is_unserved}
 use Rattle.ceu_isa.specs.Layout as layout
-use Rattle.ceu_isa.specs.Order.{chain, goes_before, before, earlier, Choice, Nowhere, Chosen, first_of}
-use Rattle.ceu_tree.specs.declared.kernel.KNode.{KNode}
-use Rattle.ceu_tree.specs.Residual.{Body, Program, Act, Begin, Start, Finish, AtEnd, AtHead, Again, Residual, Over, Run, WaitInput, WaitTime, WaitEvent, WaitForever, InAsync, Block, Open, Loop, Call, Par}
+use Rattle.ceu_isa.specs.Order.{chain, goes_before, before, earlier, Chosen, first_of}
+use Rattle.ceu_tree.specs.Residual.{Body, Program, Act, Begin, Start, Finish, AtEnd, AtHead, Again, Residual, Run, WaitInput, WaitTime, WaitEvent, WaitForever, InAsync}
 use Rattle.ceu_tree.specs.World.{World, is_among}
-use Rattle.ceu_tree.specs.Focus.{Focus, plug, leaf, choose}
+use Rattle.ceu_tree.specs.Focus.{Focus, leaf, choose}
 use Rattle.ceu_tree.specs.Wake.{runs_at, Unserved, unserved}
 use Rattle.ceu_tree.specs.Around.{is_over}
 use Rattle.ceu_tree.specs.Legal.{Seated, seats, numbers, all_differ}
 use Rattle.ceu_laws.proofs.FocusBalance.{Found, FoundIn, choose_found}
 use Rattle.ceu_stands.specs.Tables.{Tables}
-use Rattle.ceu_stands.specs.Views.{View, view, gate_seen, no_gate, Home}
+use Rattle.ceu_stands.specs.Views.{view, gate_seen, no_gate, Home}
 use Rattle.ceu_stands.specs.Leaves.{LeafGate}
 use Rattle.ceu_stands.specs.Stands.{Stands}
-use Rattle.ceu_stands.specs.Frames.{Spot, spot, FocusStands}
 use Rattle.ceu_stands.proofs.Unplug.{unplug_stands}
 use Rattle.ceu_order.specs.Laid.{BeforeAll, InOrder}
 use Rattle.ceu_order.specs.Laws.{OlderBefore, TrailsStand, FirstGate, ChoiceStands, FirstStands, FirstServedStands, async_of}
@@ -91,10 +89,10 @@ module _ (A : Type 0) (image : Image) (t : Tables) (home : Body → Home) (r : R
         body = u.0.body;
         high = u.0.high;
         is_chosen =
-        first_from image bytes test image.gates z.gate lt (sym (ap test (seen_is image bytes z.gate lt)) ∙ z.passes) (λ h l e ne. elim (z.others h (omega arith) l (passes_at h l true e)) [
-          | inl q ↦ absurd (ne q)
-          | inr q ↦ goes_first image bytes z.gate h _ _ (chain_at z.gate (seats r Program) lt z.trail) (chain_at h (seats r Program) l q.0) ne q.1
-        ]) ∙ ap Chosen (sym same);
+            first_from image bytes test image.gates z.gate lt (sym (ap test (seen_is image bytes z.gate lt)) ∙ z.passes) (λ h l e ne. elim (z.others h (omega arith) l (passes_at h l true e)) [
+              | inl q ↦ absurd (ne q)
+              | inr q ↦ goes_first image bytes z.gate h _ _ (chain_at z.gate (seats r Program) lt z.trail) (chain_at h (seats r Program) l q.0) ne q.1
+            ]) ∙ ap Chosen (sym same);
         frames_stand = u.1;
         leaf_stands = subst (λ (q : Residual). Stands t home (view image bytes) q u.0.body u.0.low u.0.high) on.0 u.2;
       }
@@ -102,7 +100,7 @@ module _ (A : Type 0) (image : Image) (t : Tables) (home : Body → Home) (r : R
   pub choice_stands : ChoiceStands A image t home bytes leaf_of (choose A pick r) (first_of image bytes (gates_from image bytes test 0 image.gates))
   choice_stands =
       go (choose A pick r) (choose_found A pick r)
-          (tree_first image bytes t home A pick test picks r Program 0 image.gates x.memory.tree x.laid x.instances.pools (all_apart t home bytes (seats r Program) x.instances.numbers.differ x.older))
+      (tree_first image bytes t home A pick test picks r Program 0 image.gates x.memory.tree x.laid x.instances.pools (all_apart t home bytes (seats r Program) x.instances.numbers.differ x.older))
     where
       go : (o : Option (Focus A)) → FoundIn A pick r o → FirstOf image bytes t home A pick test picks o Program 0 image.gates (seats r Program) → ChoiceStands A image t home bytes leaf_of o (first_of image bytes (gates_from image bytes test 0 image.gates))
       go None y z = ap (first_of image bytes) (none_from image bytes test 0 image.gates (λ g a b. no_pass g (omega (arith, b)) (z g a (omega (arith, b))) (test (gate_of image bytes g)) refl))

@@ -1,5 +1,5 @@
 -- Each gate of a part that passes the test is one of a leaf, and the instances around it are the part's.
-use Rattle.std.proofs.Common.{◌≡◌, ◌≢◌, refl, sym, ap, ◌∙◌, subst, ◌<◌, ◌≤◌, ◌⊎◌, inl, inr, ℕ, zero, suc, ◌+◌, ◌*◌, Bool, true, false, ◌==◌, List, [], ◌∷◌, ◌++◌, length, Option, Some, None, arith, append_assoc}
+use Rattle.std.proofs.Common.{◌≡◌, ◌≢◌, refl, sym, ap, ◌∙◌, subst, ◌<◌, ◌≤◌, ◌⊎◌, inl, inr, ℕ, ◌+◌, Bool, true, List, [], ◌∷◌, ◌++◌, length, Option, Some, arith, append_assoc}
 use Rattle.std.proofs.lemmas.Bool.{false≢true, cases_lt, and_parts}
 use Rattle.std.proofs.lemmas.List.{append-nil}
 use Rattle.ceu_code.specs.declared.image.Image.{Image}
@@ -17,12 +17,12 @@ use Rattle.ceu_tree.specs.Around.{kind_of}
 use Rattle.ceu_tree.specs.Legal.{Seated, seats, branch_seats, instance_seats}
 use Rattle.ceu_living.specs.Instances.{has_place, is_before, goes_before, pools_stand, each_pools_stand, seats_stand}
 use Rattle.ceu_stands.specs.Tables.{Tables}
-use Rattle.ceu_stands.specs.Views.{View, view, Free, Home}
+use Rattle.ceu_stands.specs.Views.{view, Free, Home}
 use Rattle.ceu_stands.specs.Leaves.{LeafStands}
-use Rattle.ceu_stands.specs.Parts.{Registered, finalizers, pools_gates, pool_gate, EndedBranch, par_blocks, par_slot, by_branch}
-use Rattle.ceu_stands.specs.Stands.{Stands, SeatsStand, BranchesStand, BlockStands, SeatStands, CallStands, BranchStands}
-use Rattle.ceu_order.specs.Laid.{Ascend, Laid, SeatsLaid, BranchesLaid, CallLaid, SeatLaid, BlockLaid}
-use Rattle.ceu_order.proofs.Older.{Among, among_left, among_right, frame_of, frames, Known, Head}
+use Rattle.ceu_stands.specs.Parts.{Registered, finalizers, pools_gates, EndedBranch, par_blocks, par_slot, by_branch}
+use Rattle.ceu_stands.specs.Stands.{Stands, SeatsStand, BranchesStand, BlockStands, SeatStands, CallStands}
+use Rattle.ceu_order.specs.Laid.{Ascend, Laid, SeatsLaid, BranchesLaid, CallLaid, SeatLaid}
+use Rattle.ceu_order.proofs.Older.{Among, among_left, among_right, frames, Known, Head}
 use Rattle.ceu_order.proofs.Places.{seat_gate, InSeats, in_seats}
 use Rattle.ceu_order.proofs.Trails.{Picks, leaf_frame, call_chain, seat_known, seat_chain}
 
@@ -74,8 +74,8 @@ module _ (image : Image) (bytes : List ℕ) (t : Tables) (home : Body → Home) 
         seat = seat;
         inner = y.around;
         chained = λ c e.
-        y.chained (c ++ (home (Spawned seat.number)).frame ∷ []) (seat_chain image bytes t home seat decls body pools Inner Laid_in x l c e) ∙
-        ap (λ (xs : List ℕ). Some xs) (append_assoc c ((home (Spawned seat.number)).frame ∷ []) (frames t home bytes y.around));
+            y.chained (c ++ (home (Spawned seat.number)).frame ∷ []) (seat_chain image bytes t home seat decls body pools Inner Laid_in x l c e) ∙
+            ap (λ (xs : List ℕ). Some xs) (append_assoc c ((home (Spawned seat.number)).frame ∷ []) (frames t home bytes y.around));
         among = inl refl;
         known = seat_known image bytes t home seat decls body pools Inner Laid_in x l;
         before = λ a e. (and_parts (is_before a seat) (goes_before a more) e).0;
@@ -120,8 +120,8 @@ module _ (image : Image) (bytes : List ℕ) (t : Tables) (home : Body → Home) 
   ended_passed h par.Never node slot low high g x a b e = elim (cases_lt low g) [
     | inl l ↦ not_in (low + 1) high g x.2 (omega (arith, l)) b e
     | inr l ↦
-      let same : low ≡ g = omega (arith, a) in
-      false≢true (sym (picks.forever_passed ((view image bytes).gate g) (subst (λ (n : ℕ). ((view image bytes).gate n).kind ≡ forever) same x.1.kind_is)) ∙ e)
+        let same : low ≡ g = omega (arith, a) in
+        false≢true (sym (picks.forever_passed ((view image bytes).gate g) (subst (λ (n : ℕ). ((view image bytes).gate n).kind ≡ forever) same x.1.kind_is)) ∙ e)
   ]
   ended_passed h par.And node slot low high g x a b e = not_in low high g x.1 a b e
   ended_passed h par.Or node slot low high g x a b e = x
@@ -169,10 +169,10 @@ module _ (image : Image) (bytes : List ℕ) (t : Tables) (home : Body → Home) 
     trail_in (InAsync s served r) body low high g x l p a b e = leaf_trail (InAsync s served r) body low high g x.leaf a b e
     trail_in (Block k fin all r rest) body low high g x l p a b e = elim (block_at k fin all body low high _ _ g x l.ascend p.0 a b e) [
       | inl h ↦
-        let y = seats_trail all (out-KBlock k).decls body (low + finalizers k) g x.seats l.seats p.0 h e in
-        wider image bytes t home body g (instance_seats all body) (instance_seats all body ++ seats r body) (λ z i. among_left z (instance_seats all body) (seats r body) i) (seat_trail image bytes t home (out-KBlock k).decls body (low + finalizers k) all g y)
+          let y = seats_trail all (out-KBlock k).decls body (low + finalizers k) g x.seats l.seats p.0 h e in
+          wider image bytes t home body g (instance_seats all body) (instance_seats all body ++ seats r body) (λ z i. among_left z (instance_seats all body) (seats r body) i) (seat_trail image bytes t home (out-KBlock k).decls body (low + finalizers k) all g y)
       | inr h ↦
-        let y = trail_in r body _ _ g x.inner l.inner p.1 h.0 h.1 e in wider image bytes t home body g (seats r body) (instance_seats all body ++ seats r body) (λ z i. among_right z (instance_seats all body) (seats r body) i) y
+          let y = trail_in r body _ _ g x.inner l.inner p.1 h.0 h.1 e in wider image bytes t home body g (seats r body) (instance_seats all body ++ seats r body) (λ z i. among_right z (instance_seats all body) (seats r body) i) y
     ]
     trail_in (Open s r) body low high g x l p a b e = trail_in r body low high g x.inner l p a b e
     trail_in (Loop s c r) body low high g x l p a b e = trail_in r body low high g x.inner l p a b e
@@ -198,9 +198,9 @@ module _ (image : Image) (bytes : List ℕ) (t : Tables) (home : Body → Home) 
       | inl h ↦ elim (branch_cases r _ _ x.0) [
         | inl y ↦ absurd (ended_passed (home body) k (out-KBlock c).node slot low (low + t.count (out-KBlock c).node) g y.1.0 a h e)
         | inr y ↦
-          wider image bytes t home body g (seats r body) (seats r body ++ branch_seats more body) (λ z i. among_left z (seats r body) (branch_seats more body) i) (trail_in r body low (low + t.count (out-KBlock c).node) g y.inner l.0 p.0 a h e)
+            wider image bytes t home body g (seats r body) (seats r body ++ branch_seats more body) (λ z i. among_left z (seats r body) (branch_seats more body) i) (trail_in r body low (low + t.count (out-KBlock c).node) g y.inner l.0 p.0 a h e)
       ]
       | inr h ↦
-        wider image bytes t home body g (branch_seats more body) (seats r body ++ branch_seats more body) (λ z i. among_right z (seats r body) (branch_seats more body) i)
-            (branches_trail k (slot + 1) cs more body (low + t.count (out-KBlock c).node) high g x.1 l.1 p.1 h b e)
+          wider image bytes t home body g (branch_seats more body) (seats r body ++ branch_seats more body) (λ z i. among_right z (seats r body) (branch_seats more body) i)
+          (branches_trail k (slot + 1) cs more body (low + t.count (out-KBlock c).node) high g x.1 l.1 p.1 h b e)
     ]

@@ -1,5 +1,5 @@
 -- What a program's plan and its code give for the order of its trails, beside the memory (this project's own).
-use Rattle.std.specs.Prelude.{◌≡◌, ◌≢◌, ℕ, suc, ◌<◌, ◌≤◌, true, List, [], ◌∷◌}
+use Rattle.std.specs.Prelude.{◌≡◌, ◌≢◌, ℕ, suc, ◌≤◌, true, List, [], ◌∷◌}
 use Rattle.ceu_code.specs.declared.image.Image.{Image}
 use Rattle.ceu_isa.specs.Layout.{in_slots}
 use Rattle.ceu_tree.specs.declared.kernel.KDecl.{KDecl}

@@ -1,9 +1,9 @@
 -- What tells the instances of one pool from all others: the code that each pool and each await of code stands in, the row of a pool, and the offset to
 -- which awaited code goes back (this project's own).
-use Rattle.std.specs.Prelude.{◌≡◌, ◌≢◌, ℕ, ◌<◌, Bool, true, List, [], ◌∷◌, Option, Some, None}
+use Rattle.std.specs.Prelude.{◌≡◌, ◌≢◌, ℕ, ◌<◌, Bool, true, List, [], ◌∷◌, Option, Some}
 use Rattle.ceu_tree.specs.declared.kernel.KStmt.{out-KStmt}
 use Rattle.ceu_tree.specs.declared.kernel.KStmt.TheOpen.{KStmt-F}
-use Rattle.ceu_tree.specs.Residual.{Seat, Residual, Block, Open, Loop, Call, Par, Branches, no_branch, branch, Instances, no_instance, instance}
+use Rattle.ceu_tree.specs.Residual.{Residual, Block, Open, Loop, Call, Par, Branches, no_branch, branch, Instances, no_instance, instance}
 use Rattle.ceu_tree.specs.Leaf.{Layer}
 use Rattle.ceu_tree.specs.Legal.{Seated, OpenSlot}
 use Rattle.ceu_stands.specs.Tables.{Tables}
