@@ -12,10 +12,10 @@ use Rattle.ceu_tree.specs.Legal.{Seated, seats, branch_seats, instance_seats, Op
 use Rattle.ceu_living.specs.Instances.{has_place, is_before, goes_before, pools_stand, each_pools_stand, seats_stand}
 use Rattle.ceu_order.specs.Laid.{BeforeAll, InOrder}
 use Rattle.ceu_order.specs.Told.{OlderInBody, Elsewhere, EachOnce}
-use Rattle.ceu_order.specs.Laws.{OlderInBodies}
+use Rattle.ceu_order.specs.Laws.{OlderInBodies, TrailsTold}
 use Rattle.ceu_order.proofs.Older.{Among}
 use Rattle.ceu_order.proofs.Places.{has_cases}
-use Rattle.ceu_order.proofs.Bodies.{among_either}
+use Rattle.ceu_order.proofs.Bodies.{among_either, older_stand}
 
 -- ---- open slots
 
@@ -240,3 +240,7 @@ module _ (codes : List KCode) where
 
 pub older_in_bodies : OlderInBodies
 older_in_bodies codes r p d = older_in codes r Program p d
+
+pub trails_told : TrailsTold
+trails_told image t o home codes r w bytes p x once =
+    record { memory = p.memory; instances = x; laid = p.laid; older = older_stand image t o home r w bytes p (older_in_bodies codes r x.pools once) }

@@ -75,3 +75,8 @@ OlderStand = (image : Image) (t : Tables) (o : Owners) (home : Body → Home) (r
 -- the slots are those that legality gives: `codes` are the kernel's.
 abbrev pub OlderInBodies : Type 0
 OlderInBodies = (codes : List KCode) (r : Residual) → pools_stand r → EachOnce (open_slots codes r Program) → InOrder OlderInBody (seats r Program)
+
+-- so trails stand there in order
+abbrev pub TrailsTold : Type 0
+TrailsTold = (image : Image) (t : Tables) (o : Owners) (home : Body → Home) (codes : List KCode) (r : Residual) (w : World) (bytes : List ℕ)
+    → PoolsTold image t o home r w bytes → TreeStands r w → EachOnce (open_slots codes r Program) → TrailsStand image t home r w bytes

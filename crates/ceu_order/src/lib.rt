@@ -2,7 +2,7 @@
 //! leaf in lexical order. Each law is the contract of a function with an empty body.
 #![tactic(auto)]
 
-ghost use Rattle.ceu_order.specs.Laws.{FirstServedStands, FirstStands, OlderInBodies, OlderStand};
+ghost use Rattle.ceu_order.specs.Laws.{FirstServedStands, FirstStands, OlderInBodies, OlderStand, TrailsTold};
 
 /// Where a configuration stands in the memory, the machine resumes the gate of the first leaf in lexical order that can run at a level, and finds none where
 /// there is none: its choice is never unclear.
@@ -23,4 +23,9 @@ pub fn older_stand()
 /// The instances of each pool stand by age in every tree whose instances stand in their pools, if no slot of an open body is open twice.
 pub fn older_in_bodies()
     ensures { OlderInBodies }
+{}
+
+/// So a configuration whose memory, instances and open slots stand meets what the first two laws ask for.
+pub fn trails_told()
+    ensures { TrailsTold }
 {}
