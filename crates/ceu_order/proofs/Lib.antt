@@ -1,0 +1,11 @@
+pub mod Chains
+pub mod Older
+pub mod Choice
+pub mod Places
+pub mod Trails
+pub mod Within
+pub mod Firsts
+pub mod Chosen
+pub mod Whole
+pub mod Bodies
+pub mod Ages
