@@ -20,8 +20,8 @@ use Rattle.ceu_shape.specs.Plans.{Plan, own_label}
 use Rattle.ceu_shape.specs.Pieces.{numbered}
 use Rattle.ceu_shape.specs.Searches.{PoolRow, node_of_block, kernel_pools}
 use Rattle.ceu_shape.specs.Shape.{first_fresh, kernel_piece, shape_lines, shape_positions, code_rows, pool_code, shape}
-use Rattle.ceu_placed.proofs.MarkedParts.{kernel_adds}
-use Rattle.ceu_placed.proofs.Whole.{mark_each}
+use Rattle.laws_code_placed.proofs.MarkedParts.{kernel_adds}
+use Rattle.laws_code_placed.proofs.Whole.{mark_each}
 use Rattle.ceu_low_par.specs.Conditions.{AreNodes}
 use Rattle.ceu_codegen.specs.declared.pools.Pool.{Pool}
 use Rattle.ceu_codegen.specs.Images.{CodesMarked}

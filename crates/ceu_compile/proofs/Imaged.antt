@@ -11,8 +11,8 @@ use Rattle.ceu_tree.specs.Needs.{memory, gates, slots}
 use Rattle.ceu_tree.specs.Proper.{Proper}
 use Rattle.ceu_tree.specs.Weight.{weight}
 use Rattle.ceu_tree.specs.declared.kernel.Kernel.{Kernel}
-use Rattle.ceu_spelled.specs.Laws.{plan, IsSmall, ArePlans, AreLimits}
-use Rattle.ceu_spelled.proofs.Whole.{images_spelled}
+use Rattle.laws_code_spelled.specs.Laws.{plan, IsSmall, ArePlans, AreLimits}
+use Rattle.laws_code_spelled.proofs.Whole.{images_spelled}
 use Rattle.ceu_compile.specs.Images.{IsImageOf}
 use Rattle.ceu_compile.specs.Programs.{HasBounds, IsProgram}
 use Rattle.ceu_compile.specs.Sizes.{over, too_large}

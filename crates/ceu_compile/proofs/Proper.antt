@@ -4,7 +4,7 @@ use Rattle.std.specs.Prelude.{IfOk}
 use Rattle.ceu_lex.specs.declared.token.Token.{Token}
 use Rattle.ceu_tree.specs.declared.source.Tree.{Tree}
 use Rattle.ceu_tree.specs.Proper.{Proper}
-use Rattle.ceu_kernels.proofs.Whole.{text_proper}
+use Rattle.laws_kernel_proper.proofs.Whole.{text_proper}
 use Rattle.ceu_compile.specs.Programs.{IsSound}
 use Rattle.ceu_compile.specs.Trees.{HasTree}
 use Rattle.ceu_compile.specs.declared.errors.CompileError.{CompileError}

@@ -10,7 +10,7 @@ use Rattle.ceu_tree.specs.declared.kernel.KLoop.TheVariants as turns
 use Rattle.ceu_tree.specs.declared.kernel.Loc.{Loc}
 use Rattle.ceu_tree.specs.Leaf.{Exit, Escape, Break, Continue}
 use Rattle.ceu_tree.specs.Proper.{Scope, Aim, DoAim, BodyAim, LoopAim, do_aim, gives_if, escape_ok, is_loop_aim, with_turns}
-use Rattle.ceu_legal.specs.Shape.{aim_node}
+use Rattle.laws_meaning_basics.specs.Shape.{aim_node}
 
 abbrev pub aims_at : Aim → ℕ → Exit → Type 0
 aims_at (DoAim m t) n (Escape v) = m ≡ n

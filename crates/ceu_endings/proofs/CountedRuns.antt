@@ -12,7 +12,7 @@ use Rattle.ceu_tree.specs.Wake.{each_leaf, leaves, runs_at, by_input, later, by_
 use Rattle.ceu_tree.specs.Around.{Outcome, Goes, Rests, Raises, Fails, Ends}
 use Rattle.ceu_tree.specs.Step.{stepped}
 use Rattle.ceu_tree.specs.Run.{Config, Turning, Between, Waiting, Ended, Faulted, config_of, unless_failed, level_closed, chosen_at, next, steps, booted, reacts, input, advance, is_again, Served, Unfinished, Turned, Done, Failed, serve, serve_first, after_serving, served, idle_turn, idle_turns, done, all_done, run}
-use Rattle.ceu_laws.proofs.FocusBalance.{Found, FoundIn, choose_found}
+use Rattle.laws_meaning_basics.proofs.FocusBalance.{Found, FoundIn, choose_found}
 use Rattle.ceu_endings.specs.Counted.{tree_counted, focus_counted, Counted}
 use Rattle.ceu_endings.proofs.CountedTrees.{plugged, unplugged, leaves_kept}
 use Rattle.ceu_endings.proofs.CountedSteps.{OutcomeCounted, stepped_fine}

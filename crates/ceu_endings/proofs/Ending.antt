@@ -14,8 +14,8 @@ use Rattle.ceu_tree.specs.Numbering.{counts_from, block_nodes, codes_nodes, is_n
 use Rattle.ceu_tree.specs.Proper.{BodyAim, body_scope, is_proper, block_ok, codes_ok}
 use Rattle.ceu_tree.specs.Weight.{weight, block_weight}
 use Rattle.ceu_tree.specs.Run.{Turning}
-use Rattle.ceu_legal.specs.Shape.{ConfigFits}
-use Rattle.ceu_legal.proofs.Static.{names_of, program_static}
+use Rattle.laws_meaning_basics.specs.Shape.{ConfigFits}
+use Rattle.laws_meaning_basics.proofs.Static.{names_of, program_static}
 use Rattle.ceu_paths.specs.Loops.{block_loops}
 use Rattle.ceu_endings.specs.Counted.{Counted}
 use Rattle.ceu_endings.specs.Ends.{longest_run, EndsTurns, TurnOver}

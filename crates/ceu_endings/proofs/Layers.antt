@@ -9,7 +9,7 @@ use Rattle.ceu_tree.specs.declared.kernel.KStmt.TheOpen.{KStmt-F}
 use Rattle.ceu_tree.specs.Leaf.{Layer}
 use Rattle.ceu_tree.specs.Paths.{constant_bound, quick_block}
 use Rattle.ceu_tree.specs.Proper.{Scope, Aim, LoopAim, do_aim}
-use Rattle.ceu_legal.specs.Shape.{part_scope, opens_part, among_arms}
+use Rattle.laws_meaning_basics.specs.Shape.{part_scope, opens_part, among_arms}
 use Rattle.ceu_endings.proofs.Aims.{Below}
 use Rattle.ceu_endings.proofs.Fine.{bound_fine, stmt_fine, block_fine, arm_fine, nodes_fine, arms_fine, turns_at_most, stmt_cost, block_cost, arms_cost, arm_cost_is}
 use denote.Hole.Carrier

@@ -17,7 +17,7 @@ use Rattle.ceu_tree.specs.Leaf.{Exit, Escape, Break, Continue}
 use Rattle.ceu_tree.specs.Around.{Outcome, Goes, Rests, Raises, Fails, Past, Registers, AtBlockEnd, AtLoopHead, Ends, Leaves, Moved, turn_of, next_turn, loop_left, up}
 use Rattle.ceu_tree.specs.Paths.{Way, ToBreak, constant_bound}
 use Rattle.ceu_tree.specs.Proper.{Aim, LoopAim}
-use Rattle.ceu_legal.specs.Shape.{counts}
+use Rattle.laws_meaning_basics.specs.Shape.{counts}
 use Rattle.ceu_endings.specs.Counted.{turns_left}
 use Rattle.ceu_endings.proofs.Turns.{turn_taken, turns_over}
 use Rattle.ceu_endings.proofs.Local.{Settles, local, Halts, halts_weaker, halts_first, settles_more, Answers, halts_in}

@@ -14,7 +14,7 @@ use Rattle.ceu_tree.specs.Leaf.{Exit, Escape, Break, Continue}
 use Rattle.ceu_tree.specs.Around.{Outcome, Goes, Past, Registers, AtLoopHead, Ends, Leaves, turn_of, next_turn, body_left, loop_left, up}
 use Rattle.ceu_tree.specs.Paths.{constant_bound, quick_block, quick_list}
 use Rattle.ceu_tree.specs.Proper.{Scope, Aim, LoopAim}
-use Rattle.ceu_legal.specs.Shape.{Part, ABlock, AStatement, AnEnd, counts, FrameFits, around_statement, around_end, around_instance, around_part, around_turn, around_call, around_branch, Around, nothing_around, one_around, ActFits, begins, heads, goes_again, starts, finishes, ends}
+use Rattle.laws_meaning_basics.specs.Shape.{Part, ABlock, AStatement, AnEnd, counts, FrameFits, around_statement, around_end, around_instance, around_part, around_turn, around_call, around_branch, Around, nothing_around, one_around, ActFits, begins, heads, goes_again, starts, finishes, ends}
 use Rattle.ceu_endings.specs.Counted.{layer_counted, turns_counted, turns_left, at_most, focus_counted}
 use Rattle.ceu_endings.proofs.Local.{Settles, local, Halts, halts_weaker, halts_first, settles_more, Answers, halts_in}
 use Rattle.ceu_endings.proofs.Aims.{turns_aims}

@@ -10,8 +10,8 @@ use Rattle.ceu_tree.specs.Around.{Outcome, Goes, Rests, Raises, Fails, Past, Reg
 use Rattle.ceu_tree.specs.Step.{stepped}
 use Rattle.ceu_tree.specs.Proper.{is_proper}
 use Rattle.ceu_tree.specs.Run.{Config, Turning, Faulted, config_of, unless_failed, next, steps}
-use Rattle.ceu_legal.specs.Shape.{ConfigFits}
-use Rattle.ceu_legal.proofs.RunFits.{next_fits}
+use Rattle.laws_meaning_basics.specs.Shape.{ConfigFits}
+use Rattle.laws_meaning_basics.proofs.RunFits.{next_fits}
 use Rattle.ceu_single.specs.Single.{is_single}
 use Rattle.ceu_endings.specs.Laws.{is_turning}
 use Rattle.ceu_endings.specs.Ends.{TurnOver}

@@ -17,7 +17,7 @@ use Rattle.ceu_tree.specs.Leaf as does
 use Rattle.ceu_tree.specs.Leaf.{Layer, Does, Done, or_fails, chosen_part, loop_reached, started, acted}
 use Rattle.ceu_tree.specs.Around.{Moved, moved, taken}
 use Rattle.ceu_tree.specs.Step.{does_in, stepped}
-use Rattle.ceu_legal.specs.Shape.{Part, ActFits, begins, heads, goes_again, starts, finishes, ends}
+use Rattle.laws_meaning_basics.specs.Shape.{Part, ActFits, begins, heads, goes_again, starts, finishes, ends}
 use Rattle.ceu_endings.proofs.Local.{does_local, local}
 use Rattle.ceu_endings.proofs.Shapes.{LayerSingle, PartSingle, layer_single}
 

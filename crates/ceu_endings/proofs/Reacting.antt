@@ -7,9 +7,9 @@ use Rattle.ceu_tree.specs.Focus.{Focus, choose}
 use Rattle.ceu_tree.specs.World.{World, marked}
 use Rattle.ceu_tree.specs.Wake.{runs_at}
 use Rattle.ceu_tree.specs.Run.{Config, Turning, Between, Waiting, Ended, Faulted, chosen_at, next, steps, is_reacting}
-use Rattle.ceu_legal.specs.Shape.{ConfigFits}
-use Rattle.ceu_legal.proofs.RunFits.{next_fits}
-use Rattle.ceu_laws.proofs.StepLaws.{steps_stand}
+use Rattle.laws_meaning_basics.specs.Shape.{ConfigFits}
+use Rattle.laws_meaning_basics.proofs.RunFits.{next_fits}
+use Rattle.laws_meaning_basics.proofs.StepLaws.{steps_stand}
 use Rattle.ceu_endings.specs.Counted.{Counted}
 use Rattle.ceu_endings.specs.Laws.{Settled}
 use Rattle.ceu_endings.specs.Ends.{longest_run, EndsTurns, TurnOver}

@@ -11,9 +11,9 @@ use Rattle.ceu_tree.specs.Wake.{each_leaf, leaves, runs_at, by_input, later, by_
 use Rattle.ceu_tree.specs.Costs.{bounds}
 use Rattle.ceu_tree.specs.Proper.{is_proper}
 use Rattle.ceu_tree.specs.Run.{Config, Turning, Between, Waiting, Ended, Faulted, chosen_at, next, steps, is_reacting, booted, reacts, input, advance, served, idle_turn, idle_turns, done, all_done, run, world_of, Status, status_of, Runs}
-use Rattle.ceu_legal.specs.Shape.{Fits, ConfigFits, program_part}
-use Rattle.ceu_legal.proofs.Leaves.{leaves_fit, by_input_fits, by_time_fits, later_fits, round_fits}
-use Rattle.ceu_legal.proofs.RunFits.{next_fits, steps_fit, booted_fits, done_fits, idle_turn_fits}
+use Rattle.laws_meaning_basics.specs.Shape.{Fits, ConfigFits, program_part}
+use Rattle.laws_meaning_basics.proofs.Leaves.{leaves_fit, by_input_fits, by_time_fits, later_fits, round_fits}
+use Rattle.laws_meaning_basics.proofs.RunFits.{next_fits, steps_fit, booted_fits, done_fits, idle_turn_fits}
 use Rattle.ceu_single.specs.Single.{is_single}
 use Rattle.ceu_endings.specs.Counted.{Counted, tree_counted}
 use Rattle.ceu_endings.specs.OneTrail.{OneLeaf}

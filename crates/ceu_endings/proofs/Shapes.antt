@@ -13,7 +13,7 @@ use Rattle.ceu_tree.specs.Focus.{Focus}
 use Rattle.ceu_tree.specs.Leaf.{Layer, code_at}
 use Rattle.ceu_tree.specs.Run.{Config, Turning, Between, Waiting, Ended, Faulted}
 use Rattle.ceu_tree.specs.Legal.{finalizers_of, is_finalizer}
-use Rattle.ceu_legal.specs.Shape.{Part, ABlock, AStatement, AnEnd, opens_part, among_arms, Fits, to_begin, to_turn, in_list, to_finish, at_input, at_time, at_event, at_forever, at_async, in_part, in_turn, in_call, in_par, AllFit, none_lives, one_lives, FrameFits, around_statement, around_end, around_instance, around_part, around_turn, around_call, around_branch, Around, nothing_around, one_around, ConfigFits}
+use Rattle.laws_meaning_basics.specs.Shape.{Part, ABlock, AStatement, AnEnd, opens_part, among_arms, Fits, to_begin, to_turn, in_list, to_finish, at_input, at_time, at_event, at_forever, at_async, in_part, in_turn, in_call, in_par, AllFit, none_lives, one_lives, FrameFits, around_statement, around_end, around_instance, around_part, around_turn, around_call, around_branch, Around, nothing_around, one_around, ConfigFits}
 use Rattle.ceu_single.specs.Single.{stmt_single, block_single, arm_single, nodes_single, arms_single, has_no_code, is_single}
 use Rattle.ceu_endings.specs.OneTrail.{OneLeaf, PlainFrame, PlainFocus, OneTrail}
 use denote.Hole.Carrier

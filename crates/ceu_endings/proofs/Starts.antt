@@ -21,7 +21,7 @@ use Rattle.ceu_tree.specs.Around.{Outcome, Fails}
 use Rattle.ceu_tree.specs.Paths.{Way, ToEnd, constant_bound, is_range, loop_ways, do_ways, quick_block, quick_list}
 use Rattle.ceu_tree.specs.Proper.{Aim, LoopAim, do_aim}
 use Rattle.ceu_tree.proofs.PathLaws.{quick_of_block}
-use Rattle.ceu_legal.specs.Shape.{counts}
+use Rattle.laws_meaning_basics.specs.Shape.{counts}
 use Rattle.ceu_endings.specs.Counted.{turns_left}
 use Rattle.ceu_endings.proofs.Turns.{exactly, turns_begin_with}
 use Rattle.ceu_endings.proofs.Local.{Settles, does_local, local, Halts, halts_weaker, halts_first, halts_in}

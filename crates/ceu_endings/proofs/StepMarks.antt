@@ -23,8 +23,8 @@ use Rattle.ceu_tree.specs.Around.{Outcome, Goes, Rests, Raises, Fails, Past, Reg
 use Rattle.ceu_tree.specs.Step.{stepped}
 use Rattle.ceu_tree.specs.Proper.{is_proper}
 use Rattle.ceu_tree.specs.Run.{Config, Turning, Between, Waiting, Ended, Faulted, config_of, unless_failed, chosen_at, next, steps, world_of}
-use Rattle.ceu_legal.specs.Shape.{ActFits, begins, heads, goes_again, starts, finishes, ends, ConfigFits}
-use Rattle.ceu_legal.proofs.RunFits.{next_fits}
+use Rattle.laws_meaning_basics.specs.Shape.{ActFits, begins, heads, goes_again, starts, finishes, ends, ConfigFits}
+use Rattle.laws_meaning_basics.proofs.RunFits.{next_fits}
 use Rattle.ceu_single.specs.Single.{is_single}
 use Rattle.ceu_endings.specs.OneTrail.{PlainFrame, PlainFocus}
 use Rattle.ceu_endings.specs.Laws.{resumes, level_changes, Reaction}

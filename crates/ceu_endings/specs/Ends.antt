@@ -9,7 +9,7 @@ use Rattle.ceu_tree.specs.World.{World}
 use Rattle.ceu_tree.specs.Proper.{Proper}
 use Rattle.ceu_tree.specs.Weight.{weight}
 use Rattle.ceu_tree.specs.Run.{Config, Turning, Between, steps, is_reacting, done, run, Status, Runs}
-use Rattle.ceu_legal.specs.Shape.{ConfigFits}
+use Rattle.laws_meaning_basics.specs.Shape.{ConfigFits}
 use Rattle.ceu_bound.specs.PhaseB.{KeepsLoopRules}
 use Rattle.ceu_single.specs.Single.{Single}
 use Rattle.ceu_endings.specs.Counted.{Counted}

@@ -11,7 +11,7 @@ use Rattle.ceu_tree.specs.Wake.{runs_at}
 use Rattle.ceu_tree.specs.Costs.{bounds}
 use Rattle.ceu_tree.specs.Proper.{Proper}
 use Rattle.ceu_tree.specs.Run.{Config, Turning, Between, world_of, booted, next, steps, done, run}
-use Rattle.ceu_legal.specs.Shape.{ConfigFits}
+use Rattle.laws_meaning_basics.specs.Shape.{ConfigFits}
 use Rattle.ceu_single.specs.Single.{Single}
 use Rattle.ceu_endings.specs.Counted.{Counted}
 use Rattle.ceu_endings.specs.OneTrail.{OneTrail}

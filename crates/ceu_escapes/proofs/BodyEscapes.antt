@@ -7,8 +7,8 @@ use Rattle.ceu_base.specs.Values.{IsValue}
 use Rattle.ceu_code.specs.declared.image.Image.{Image}
 use Rattle.ceu_code.specs.declared.instr.Instr.TheVariants as instr
 use Rattle.ceu_code.specs.Instructions.{cell}
-use Rattle.ceu_fetch.specs.Placed.{Placed}
-use Rattle.ceu_fetch.proofs.Lines.{parts_are_placed}
+use Rattle.laws_machine_code.specs.Placed.{Placed}
+use Rattle.laws_machine_code.proofs.Lines.{parts_are_placed}
 use Rattle.ceu_isa.specs.declared.registers.Registers.{Registers}
 use Rattle.ceu_isa.specs.Layout.{scratch_at, with_state, ended}
 use Rattle.ceu_isa.specs.Fetching.{fetched}
@@ -33,14 +33,14 @@ use Rattle.ceu_tree.specs.Focus.{Frame, OfBlock, Focus, Here, In, plug}
 use Rattle.ceu_tree.specs.Around.{Ends, Leaves, Moved, moved, through, up, taken, body_left}
 use Rattle.ceu_tree.specs.Step.{stepped}
 use Rattle.ceu_tree.specs.World.{World}
-use Rattle.ceu_legal.specs.Shape.{Part, block_scope}
+use Rattle.laws_meaning_basics.specs.Shape.{Part, block_scope}
 use Rattle.ceu_shape.specs.Plans.{Plan, own_label, end_label}
 use Rattle.ceu_shape.specs.Flow.{keep}
 use Rattle.ceu_shape.specs.Searches.{node_of_block, escape_target}
 use Rattle.ceu_shape.specs.Shape.{block_draft}
 use Rattle.ceu_shape.specs.Words.{goto}
-use Rattle.ceu_results.proofs.Operators.{held_value}
-use Rattle.ceu_stands.proofs.Gates.{cell_small}
+use Rattle.laws_meaning_values.proofs.Operators.{held_value}
+use Rattle.laws_machine_layout.proofs.Gates.{cell_small}
 use Rattle.ceu_trail.specs.Built.{at_label, number, behind}
 use Rattle.ceu_trail.specs.Compiled.{Compiled}
 use Rattle.ceu_trail.specs.Coming.{Comes}

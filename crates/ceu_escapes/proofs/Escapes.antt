@@ -27,11 +27,11 @@ use Rattle.ceu_tree.specs.Focus.{Frame, OfBlock, OfOpen, Focus, Here, In, plug}
 use Rattle.ceu_tree.specs.Around.{Goes, Past, Leaves, Moved, moved, through, up, taken, open_left}
 use Rattle.ceu_tree.specs.Step.{stepped}
 use Rattle.ceu_tree.specs.World.{World, assign_if}
-use Rattle.ceu_legal.specs.Shape.{Part, block_scope}
-use Rattle.ceu_legal.proofs.Static.{names_of}
+use Rattle.laws_meaning_basics.specs.Shape.{Part, block_scope}
+use Rattle.laws_meaning_basics.proofs.Static.{names_of}
 use Rattle.ceu_shape.specs.Plans.{Plan, own_label, end_label}
 use Rattle.ceu_shape.specs.Shape.{parts_draft}
-use Rattle.ceu_stands.specs.Views.{view}
+use Rattle.laws_machine_layout.specs.Views.{view}
 use Rattle.ceu_trail.specs.Built.{at_label, StatementBuilt}
 use Rattle.ceu_trail.specs.Compiled.{Compiled}
 use Rattle.ceu_trail.specs.Coming.{Comes}

@@ -14,11 +14,11 @@ use Rattle.ceu_tree.specs.declared.kernel.Loc.{Loc}
 use Rattle.ceu_tree.specs.Focus.{Frame}
 use Rattle.ceu_tree.specs.Numbering.{counts_from, stmt_nodes, block_nodes, arm_nodes, list_nodes, arms_nodes, blocks_nodes}
 use Rattle.ceu_tree.specs.Proper.{Scope, is_proper}
-use Rattle.ceu_legal.specs.Shape.{Part, ABlock, AStatement, AnEnd, among_arms, opens_part}
+use Rattle.laws_meaning_basics.specs.Shape.{Part, ABlock, AStatement, AnEnd, among_arms, opens_part}
 use Rattle.ceu_shape.specs.Searches.{or_else, target_if, stmt_target, block_target, arm_target, nodes_target, arms_target, blocks_target, codes_target, escape_target}
 use Rattle.ceu_single.specs.Single.{has_no_code, block_single, Single}
-use Rattle.ceu_values.proofs.Counts.{counts_parts, nodes_all, block_nodes_is}
-use Rattle.ceu_values.proofs.Grounds.{program_ground}
+use Rattle.laws_meaning_values.proofs.Counts.{counts_parts, nodes_all, block_nodes_is}
+use Rattle.laws_meaning_values.proofs.Grounds.{program_ground}
 use Rattle.ceu_steps.specs.Reached.{Reached, at_program, at_statement, at_end, in_part, in_turn}
 use Rattle.ceu_escapes.specs.Laws.{TargetsAreFound}
 use denote.Hole.Carrier

@@ -18,12 +18,12 @@ use Rattle.ceu_tree.specs.Residual.{Act, no_instance}
 use Rattle.ceu_tree.specs.Focus.{Frame, OfBlock, OfOpen, OfLoop, Focus, In}
 use Rattle.ceu_tree.specs.Leaf.{Layer, Escape}
 use Rattle.ceu_tree.specs.World.{World}
-use Rattle.ceu_legal.specs.Shape.{Part, AStatement, part_scope, opens_part}
+use Rattle.laws_meaning_basics.specs.Shape.{Part, AStatement, part_scope, opens_part}
 use Rattle.ceu_endings.proofs.Aims.{Below, leads_below, escape_leads, turns_aims}
 use Rattle.ceu_trail.specs.Parts.{PartSingle}
 use Rattle.ceu_within.proofs.Exits.{below}
-use Rattle.ceu_stands.specs.Tables.{Tables}
-use Rattle.ceu_stands.specs.Views.{View}
+use Rattle.laws_machine_layout.specs.Tables.{Tables}
+use Rattle.laws_machine_layout.specs.Views.{View}
 use Rattle.ceu_steps.specs.Reached.{wrap, Reached, at_program, at_statement, in_part, in_turn}
 use Rattle.ceu_steps.proofs.Frames.{AllCount}
 use Rattle.ceu_steps.proofs.Turns.{Standing}

@@ -10,7 +10,7 @@ use Rattle.ceu_base.specs.Values.{IsValue}
 use Rattle.ceu_code.specs.declared.image.Image.{Image}
 use Rattle.ceu_code.specs.declared.instr.Instr.TheVariants as instr
 use Rattle.ceu_isa.specs.Turns.{Machine, rewritten}
-use Rattle.ceu_fetch.specs.Placed.{Placed}
+use Rattle.laws_machine_code.specs.Placed.{Placed}
 use Rattle.ceu_tree.specs.declared.kernel.Kernel.{Kernel}
 use Rattle.ceu_tree.specs.declared.kernel.KExp.{KExp}
 use Rattle.ceu_tree.specs.declared.kernel.KNode.{KNode}
@@ -27,14 +27,14 @@ use Rattle.ceu_tree.specs.Focus.{Frame, OfBlock, OfOpen, Focus, Here, plug}
 use Rattle.ceu_tree.specs.Around.{Past, Moved, moved}
 use Rattle.ceu_tree.specs.Typing.{typed}
 use Rattle.ceu_tree.specs.World.{World, assign, assign_if}
-use Rattle.ceu_legal.specs.Shape.{block_scope}
+use Rattle.laws_meaning_basics.specs.Shape.{block_scope}
 use Rattle.ceu_shape.specs.Plans.{Plan, own_label, end_label}
 use Rattle.ceu_shape.specs.Flow.{keep}
 use Rattle.ceu_shape.specs.Searches.{escape_target}
 use Rattle.ceu_shape.specs.Words.{plain, goto, store}
-use Rattle.ceu_results.specs.Results.{IsResult}
-use Rattle.ceu_results.proofs.Results.{results_are_values}
-use Rattle.ceu_stands.specs.Views.{view}
+use Rattle.laws_meaning_values.specs.Results.{IsResult}
+use Rattle.laws_meaning_values.proofs.Results.{results_are_values}
+use Rattle.laws_machine_layout.specs.Views.{view}
 use Rattle.ceu_trail.specs.Built.{at_label}
 use Rattle.ceu_trail.specs.Compiled.{Compiled}
 use Rattle.ceu_trail.specs.Coming.{Comes}

@@ -15,8 +15,8 @@ use Rattle.ceu_isa.specs.Effects as isa
 use Rattle.ceu_isa.specs.Effects.{provided}
 use Rattle.ceu_isa.specs.Rows.{effect}
 use Rattle.ceu_isa.specs.Turns.{Machine, Trail, rewritten}
-use Rattle.ceu_fetch.specs.Placed.{Placed}
-use Rattle.ceu_fetch.proofs.Lines.{parts_are_placed}
+use Rattle.laws_machine_code.specs.Placed.{Placed}
+use Rattle.laws_machine_code.proofs.Lines.{parts_are_placed}
 use Rattle.ceu_mem.specs.Bytes.{number_at}
 use Rattle.ceu_mem.proofs.Views.{number_written}
 use Rattle.ceu_tree.specs.declared.kernel.Kernel.{Kernel}
@@ -36,9 +36,9 @@ use Rattle.ceu_shape.specs.Flow.{keep}
 use Rattle.ceu_shape.specs.Searches.{escape_target}
 use Rattle.ceu_shape.specs.Words.{mark, goto}
 use Rattle.ceu_shape.specs.Shape.{parts_draft, exp_part}
-use Rattle.ceu_values.specs.Ready.{layer_has, exp_has}
-use Rattle.ceu_stands.proofs.Gates.{cell_small}
-use Rattle.ceu_evaluates.specs.Seen.{NodePlaced}
+use Rattle.laws_meaning_values.specs.Ready.{layer_has, exp_has}
+use Rattle.laws_machine_layout.proofs.Gates.{cell_small}
+use Rattle.laws_machine_code.specs.Seen.{NodePlaced}
 use Rattle.ceu_trail.specs.Built.{at_label, number, StatementBuilt}
 use Rattle.ceu_trail.specs.Turning.{MemoryHolds}
 use Rattle.ceu_steps.specs.Running.{Runs, Unseen, trail_at}

@@ -15,7 +15,7 @@ use Rattle.ceu_tree.specs.Proper.{Scope}
 use Rattle.ceu_tree.specs.Residual.{Start, no_instance}
 use Rattle.ceu_tree.specs.Focus.{Frame, OfBlock}
 use Rattle.ceu_tree.specs.World.{World}
-use Rattle.ceu_legal.specs.Shape.{AStatement}
+use Rattle.laws_meaning_basics.specs.Shape.{AStatement}
 use Rattle.ceu_shape.specs.Plans.{Plan}
 use Rattle.ceu_shape.specs.Searches.{escape_target}
 use Rattle.ceu_trail.specs.Compiled.{Compiled}

@@ -24,14 +24,14 @@ use Rattle.ceu_tree.specs.Focus.{Frame, Focus, Here, In, leaf, choose}
 use Rattle.ceu_tree.specs.Wake as waking
 use Rattle.ceu_tree.specs.World.{World, Cell, Holds, NotSet, Names}
 use Rattle.ceu_tree.specs.Run.{Between}
-use Rattle.ceu_legal.specs.Shape.{Part, ABlock, Around, nothing_around, one_around, ActFits, begins, heads, goes_again, starts, finishes, ends, TurnFits, program_part}
+use Rattle.laws_meaning_basics.specs.Shape.{Part, ABlock, Around, nothing_around, one_around, ActFits, begins, heads, goes_again, starts, finishes, ends, TurnFits, program_part}
 use Rattle.ceu_shape.specs.Plans.{Plan, own_label}
 use Rattle.ceu_shape.specs.Searches.{node_of_block}
-use Rattle.ceu_stands.specs.Tables.{Tables}
-use Rattle.ceu_stands.specs.Views.{view, Home}
-use Rattle.ceu_stands.specs.Leaves.{async_kind, if_taken, RunsGate, LeafGate}
-use Rattle.ceu_stands.specs.Laws.{AreBytes}
-use Rattle.ceu_stands.specs.Values.{CellStands, ValuesStand, BetweenStands}
+use Rattle.laws_machine_layout.specs.Tables.{Tables}
+use Rattle.laws_machine_layout.specs.Views.{view, Home}
+use Rattle.laws_machine_layout.specs.Leaves.{async_kind, if_taken, RunsGate, LeafGate}
+use Rattle.laws_machine_layout.specs.Laws.{AreBytes}
+use Rattle.laws_machine_layout.specs.Values.{CellStands, ValuesStand, BetweenStands}
 use Rattle.ceu_endings.proofs.Shapes.{one_leaf, no_codes}
 use Rattle.ceu_endings.specs.OneTrail.{OneLeaf}
 use Rattle.ceu_trail.specs.Built.{at_label}

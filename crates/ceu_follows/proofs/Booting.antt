@@ -9,8 +9,8 @@ use Rattle.ceu_mem.specs.declared.gate.Gate.{Gate}
 use Rattle.ceu_mem.specs.Bytes.{number_at}
 use Rattle.ceu_mem.specs.Memory.{IsGate}
 use Rattle.ceu_mem.proofs.Views.{number_step, number_nothing}
-use Rattle.ceu_fetch.specs.Placed.{Placed}
-use Rattle.ceu_fetch.proofs.Lines.{parts_are_placed}
+use Rattle.laws_machine_code.specs.Placed.{Placed}
+use Rattle.laws_machine_code.proofs.Lines.{parts_are_placed}
 use Rattle.ceu_isa.specs.Layout.{end_of, gate_of, gate_put, free}
 use Rattle.ceu_isa.specs.Reactions as machine
 use Rattle.ceu_isa.specs.Commands as commands
@@ -26,14 +26,14 @@ use Rattle.ceu_tree.specs.Run.{booted, steps}
 use Rattle.ceu_shape.specs.Plans.{Plan, own_label}
 use Rattle.ceu_shape.specs.Searches.{node_of_block}
 use Rattle.ceu_shape.specs.Shape.{shape_lines, block_draft, codes_draft, program_draft, first_fresh, kernel_piece}
-use Rattle.ceu_legal.specs.Shape.{nothing_around, program_part}
-use Rattle.ceu_legal.proofs.RunFits.{booted_fits}
-use Rattle.ceu_values.proofs.RunValues.{booted_valued}
-use Rattle.ceu_stands.specs.Laws.{AreBytes}
-use Rattle.ceu_stands.specs.Views.{view}
-use Rattle.ceu_stands.specs.Leaves.{LeafGate}
-use Rattle.ceu_stands.specs.Stands.{Stands}
-use Rattle.ceu_stands.specs.Values.{ValuesStand}
+use Rattle.laws_meaning_basics.specs.Shape.{nothing_around, program_part}
+use Rattle.laws_meaning_basics.proofs.RunFits.{booted_fits}
+use Rattle.laws_meaning_values.proofs.RunValues.{booted_valued}
+use Rattle.laws_machine_layout.specs.Laws.{AreBytes}
+use Rattle.laws_machine_layout.specs.Views.{view}
+use Rattle.laws_machine_layout.specs.Leaves.{LeafGate}
+use Rattle.laws_machine_layout.specs.Stands.{Stands}
+use Rattle.laws_machine_layout.specs.Values.{ValuesStand}
 use Rattle.ceu_endings.specs.Ends.{EndsTurns}
 use Rattle.ceu_endings.proofs.CountedRuns as counters
 use Rattle.ceu_endings.proofs.Shapes.{no_codes}

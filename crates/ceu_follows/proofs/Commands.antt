@@ -20,8 +20,8 @@ use Rattle.ceu_tree.specs.Run as run
 use Rattle.ceu_tree.specs.Run.{Config, Turning, Between, Waiting, Ended, Faulted, world_of, steps, done, advance, input, served}
 use Rattle.ceu_shape.specs.Plans.{Plan}
 use Rattle.ceu_shape.specs.Shape.{shape}
-use Rattle.ceu_stands.specs.Values.{MemoryStands}
-use Rattle.ceu_stands.proofs.Occurrences.{input_stands, time_stands, due_stands, round_stands}
+use Rattle.laws_machine_layout.specs.Values.{MemoryStands}
+use Rattle.laws_machine_layout.proofs.Occurrences.{input_stands, time_stands, due_stands, round_stands}
 use Rattle.ceu_endings.specs.Ends.{EndsTurns}
 use Rattle.ceu_endings.specs.OneTrail.{OneLeaf}
 use Rattle.ceu_endings.proofs.Shapes.{one_leaf, no_codes}

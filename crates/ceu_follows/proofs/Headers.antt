@@ -8,11 +8,11 @@ use Rattle.ceu_mem.proofs.Views.{number_outside}
 use Rattle.ceu_isa.specs.Safety.{Fits}
 use Rattle.ceu_tree.specs.Residual.{Body, Program, Residual}
 use Rattle.ceu_tree.specs.World.{World}
-use Rattle.ceu_stands.specs.Tables.{Tables}
-use Rattle.ceu_stands.specs.Laws.{AreBytes}
-use Rattle.ceu_stands.specs.Views.{View, view, gate_seen, slot_number, no_gate, Home}
-use Rattle.ceu_stands.specs.Stands.{Stands}
-use Rattle.ceu_stands.specs.Values.{ValuesStand, MemoryStands}
+use Rattle.laws_machine_layout.specs.Tables.{Tables}
+use Rattle.laws_machine_layout.specs.Laws.{AreBytes}
+use Rattle.laws_machine_layout.specs.Views.{View, view, gate_seen, slot_number, no_gate, Home}
+use Rattle.laws_machine_layout.specs.Stands.{Stands}
+use Rattle.laws_machine_layout.specs.Values.{ValuesStand, MemoryStands}
 use Rattle.ceu_follows.proofs.Memory.{slots_seen, header_slots, header_gate}
 
 same_function : {A B : Type 0} {f g : A → B} → ((x : A) → f x ≡ g x) → f ≡ g

@@ -11,9 +11,9 @@ use Rattle.ceu_mem.proofs.Views.{length-with_number, number_outside, with_number
 use Rattle.ceu_mem.proofs.Gates.{get_put_same, get_put_other, put_length, put_out}
 use Rattle.ceu_isa.specs.Layout.{gates_at, slots_at, end_of, gate_of, gate_put, free}
 use Rattle.ceu_isa.specs.Safety.{Fits}
-use Rattle.ceu_stands.specs.Laws.{AreBytes}
-use Rattle.ceu_stands.specs.Views.{view, gate_seen, slot_number, no_gate, Free}
-use Rattle.ceu_stands.proofs.Gates.{is_gate}
+use Rattle.laws_machine_layout.specs.Laws.{AreBytes}
+use Rattle.laws_machine_layout.specs.Views.{view, gate_seen, slot_number, no_gate, Free}
+use Rattle.laws_machine_layout.proofs.Gates.{is_gate}
 
 -- ---- what is written are bytes
 

@@ -8,9 +8,9 @@ use Rattle.ceu_tree.specs.declared.kernel.KStmt.TheOpen.{KStmt-F}
 use Rattle.ceu_tree.specs.Leaf.{Layer}
 use Rattle.ceu_tree.specs.Residual.{Program, Counter, Free, Turns, Upward}
 use Rattle.ceu_tree.specs.Focus.{Frame, OfLoop, Focus, Here, In}
-use Rattle.ceu_stands.specs.Tables.{Tables}
-use Rattle.ceu_stands.specs.Views.{View, Home}
-use Rattle.ceu_stands.specs.Parts.{TurnsStand, CounterStands}
+use Rattle.laws_machine_layout.specs.Tables.{Tables}
+use Rattle.laws_machine_layout.specs.Views.{View, Home}
+use Rattle.laws_machine_layout.specs.Parts.{TurnsStand, CounterStands}
 use Rattle.ceu_trail.specs.Turning.{home, FrameCounts, Counted}
 
 module _ (t : Tables) (v u : View) (same : (size at : ℕ) → u.number size at ≡ v.number size at) where

@@ -20,9 +20,9 @@ use Rattle.ceu_tree.specs.World.{World, Cell, Holds, NotSet, Names, marked}
 use Rattle.ceu_tree.specs.Run.{Config, Turning, Between, Waiting, Ended, Faulted, next, steps, is_reacting, world_of}
 use Rattle.ceu_shape.specs.Plans.{Plan}
 use Rattle.ceu_shape.specs.Shape.{shape}
-use Rattle.ceu_stands.specs.Views.{View, view, Home}
-use Rattle.ceu_stands.specs.Values.{CellStands}
-use Rattle.ceu_laws.proofs.StepLaws.{steps_stand}
+use Rattle.laws_machine_layout.specs.Views.{View, view, Home}
+use Rattle.laws_machine_layout.specs.Values.{CellStands}
+use Rattle.laws_meaning_basics.proofs.StepLaws.{steps_stand}
 use Rattle.ceu_endings.specs.Ends.{EndsTurns}
 use Rattle.ceu_endings.specs.Laws.{is_turning, Settled}
 use Rattle.ceu_endings.proofs.Calm.{turn_settles}

@@ -19,15 +19,15 @@ use Rattle.ceu_tree.specs.Wake.{each_leaf, leaves, by_input, later, by_time, lea
 use Rattle.ceu_tree.specs.Proper.{port_ty}
 use Rattle.ceu_tree.specs.Run.{Config, Between, Waiting, world_of, steps, done, advance}
 use Rattle.ceu_shape.specs.Plans.{Plan}
-use Rattle.ceu_legal.specs.Shape.{ConfigFits}
-use Rattle.ceu_legal.proofs.Leaves.{leaves_fit, later_fits}
-use Rattle.ceu_legal.proofs.RunFits.{done_fits}
-use Rattle.ceu_values.specs.Needed.{Valued}
-use Rattle.ceu_stands.specs.Views.{Home}
+use Rattle.laws_meaning_basics.specs.Shape.{ConfigFits}
+use Rattle.laws_meaning_basics.proofs.Leaves.{leaves_fit, later_fits}
+use Rattle.laws_meaning_basics.proofs.RunFits.{done_fits}
+use Rattle.laws_meaning_values.specs.Needed.{Valued}
+use Rattle.laws_machine_layout.specs.Views.{Home}
 use Rattle.ceu_endings.specs.Counted.{Counted}
-use Rattle.ceu_values.proofs.RunValues.{done_valued}
-use Rattle.ceu_stands.specs.Laws.{AreBytes}
-use Rattle.ceu_stands.specs.Values.{MemoryStands}
+use Rattle.laws_meaning_values.proofs.RunValues.{done_valued}
+use Rattle.laws_machine_layout.specs.Laws.{AreBytes}
+use Rattle.laws_machine_layout.specs.Values.{MemoryStands}
 use Rattle.ceu_endings.specs.Ends.{EndsTurns}
 use Rattle.ceu_endings.proofs.CountedRuns as counters
 use Rattle.ceu_endings.proofs.Shapes.{no_codes}

@@ -12,10 +12,10 @@ use Rattle.ceu_tree.specs.Around.{Outcome, Goes, Rests, Raises, Fails, Past, Reg
 use Rattle.ceu_tree.specs.Step.{stepped}
 use Rattle.ceu_tree.specs.Proper.{is_proper}
 use Rattle.ceu_tree.specs.Run.{Config, Turning, Between, Waiting, Ended, Faulted, config_of, chosen_at, next, world_of}
-use Rattle.ceu_legal.specs.Laws.{is_whole}
-use Rattle.ceu_legal.specs.Shape.{ConfigFits}
-use Rattle.ceu_legal.proofs.RunFits.{next_fits, step_whole}
-use Rattle.ceu_values.proofs.RunValues.{next_valued}
+use Rattle.laws_meaning_basics.specs.Laws.{is_whole}
+use Rattle.laws_meaning_basics.specs.Shape.{ConfigFits}
+use Rattle.laws_meaning_basics.proofs.RunFits.{next_fits, step_whole}
+use Rattle.laws_meaning_values.proofs.RunValues.{next_valued}
 use Rattle.ceu_single.specs.Single.{is_single}
 use Rattle.ceu_endings.specs.Laws.{AtLevelZero}
 use Rattle.ceu_endings.proofs.Shapes.{no_codes}

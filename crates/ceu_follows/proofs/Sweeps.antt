@@ -5,7 +5,7 @@ use Rattle.ceu_mem.specs.declared.gate.Gate.{Gate}
 use Rattle.ceu_mem.specs.Bytes.{number_at}
 use Rattle.ceu_isa.specs.Layout.{gate_of, if_changed, each_gate}
 use Rattle.ceu_isa.specs.Safety.{Fits}
-use Rattle.ceu_stands.specs.Laws.{AreBytes}
+use Rattle.laws_machine_layout.specs.Laws.{AreBytes}
 use Rattle.ceu_follows.proofs.Memory.{put_fits, put_bytes, put_header}
 
 pub record Unmoved (image : Image) (old new : List ℕ) : Type 0 where

@@ -8,12 +8,12 @@ use Rattle.ceu_tree.specs.declared.kernel.KStmt.{out-KStmt}
 use Rattle.ceu_tree.specs.Residual.{Body, Program, Act, Residual, Run, WaitInput, WaitTime, WaitForever, Block, Open, Loop, Instances}
 use Rattle.ceu_tree.specs.Focus.{Frame, OfBlock, OfOpen, OfLoop, Focus, Here, In, leaf, under, or_else, in_block, choose, choose_instance}
 use Rattle.ceu_tree.specs.Wake.{runs_at}
-use Rattle.ceu_legal.specs.Shape.{Part, Fits, to_begin, to_turn, in_list, to_finish, at_input, at_time, at_event, at_forever, at_async, in_part, in_turn, in_call, in_par}
-use Rattle.ceu_stands.specs.Tables.{Tables}
-use Rattle.ceu_stands.specs.Views.{View, Free, Home}
-use Rattle.ceu_stands.specs.Parts.{CounterStands, finalizers, pools_gates}
-use Rattle.ceu_stands.specs.Leaves.{LeafGate}
-use Rattle.ceu_stands.specs.Stands.{Stands}
+use Rattle.laws_meaning_basics.specs.Shape.{Part, Fits, to_begin, to_turn, in_list, to_finish, at_input, at_time, at_event, at_forever, at_async, in_part, in_turn, in_call, in_par}
+use Rattle.laws_machine_layout.specs.Tables.{Tables}
+use Rattle.laws_machine_layout.specs.Views.{View, Free, Home}
+use Rattle.laws_machine_layout.specs.Parts.{CounterStands, finalizers, pools_gates}
+use Rattle.laws_machine_layout.specs.Leaves.{LeafGate}
+use Rattle.laws_machine_layout.specs.Stands.{Stands}
 use Rattle.ceu_endings.specs.OneTrail.{OneLeaf}
 use Rattle.ceu_trail.specs.Parts.{PartSingle}
 use Rattle.ceu_trail.specs.Turning.{home, FrameCounts, Counted}

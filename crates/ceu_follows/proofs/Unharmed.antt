@@ -23,7 +23,7 @@ use Rattle.ceu_tree.specs.Around.{Outcome, Goes, Rests, Raises, Fails, Past, Reg
 use Rattle.ceu_tree.specs.Step.{stepped}
 use Rattle.ceu_tree.specs.Proper.{is_proper}
 use Rattle.ceu_tree.specs.Run.{Turning}
-use Rattle.ceu_legal.specs.Shape.{ActFits, begins, heads, goes_again, starts, finishes, ends, ConfigFits}
+use Rattle.laws_meaning_basics.specs.Shape.{ActFits, begins, heads, goes_again, starts, finishes, ends, ConfigFits}
 use Rattle.ceu_single.specs.Single.{is_single}
 use Rattle.ceu_endings.specs.OneTrail.{PlainFrame, PlainFocus}
 use Rattle.ceu_endings.proofs.Local.{does_local, local}

@@ -12,12 +12,12 @@ use Rattle.ceu_tree.specs.Focus.{Focus, OfBlock, OfOpen, OfLoop, under, choose, 
 use Rattle.ceu_tree.specs.Wake as waking
 use Rattle.ceu_tree.specs.Wake.{leaves, leaves_of_instances, least_time, each_leaf, Unserved, new_round}
 use Rattle.ceu_tree.specs.World.{World}
-use Rattle.ceu_legal.specs.Shape.{Fits, program_part}
+use Rattle.laws_meaning_basics.specs.Shape.{Fits, program_part}
 use Rattle.ceu_single.specs.Single.{is_single}
-use Rattle.ceu_stands.specs.Tables.{Tables}
-use Rattle.ceu_stands.specs.Views.{view, Home}
-use Rattle.ceu_stands.specs.Leaves.{RunsGate, LeafGate}
-use Rattle.ceu_stands.specs.Values.{MemoryStands}
+use Rattle.laws_machine_layout.specs.Tables.{Tables}
+use Rattle.laws_machine_layout.specs.Views.{view, Home}
+use Rattle.laws_machine_layout.specs.Leaves.{RunsGate, LeafGate}
+use Rattle.laws_machine_layout.specs.Values.{MemoryStands}
 use Rattle.ceu_endings.specs.OneTrail.{OneLeaf}
 use Rattle.ceu_endings.proofs.Shapes.{one_leaf, no_codes}
 use Rattle.ceu_follows.proofs.Trees.{tree_light, bottom, AtGate, at_gate}

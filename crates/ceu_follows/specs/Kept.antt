@@ -3,8 +3,8 @@
 use Rattle.std.specs.Prelude.{◌≡◌, None}
 use Rattle.ceu_tree.specs.declared.kernel.Kernel.{Kernel}
 use Rattle.ceu_tree.specs.Run.{Config, Turning, Between, Waiting, Ended, Faulted, world_of, next}
-use Rattle.ceu_legal.specs.Shape.{ConfigFits}
-use Rattle.ceu_values.specs.Needed.{Valued}
+use Rattle.laws_meaning_basics.specs.Shape.{ConfigFits}
+use Rattle.laws_meaning_values.specs.Needed.{Valued}
 use Rattle.ceu_single.specs.Single.{Single}
 use Rattle.ceu_tree.specs.Proper.{Proper}
 use Rattle.ceu_endings.specs.Counted.{Counted}

@@ -12,8 +12,8 @@ use Rattle.ceu_tree.specs.Residual.{Residual}
 use Rattle.ceu_tree.specs.World.{World}
 use Rattle.ceu_tree.specs.Run.{Config, Waiting, Ended, Faulted, world_of}
 use Rattle.ceu_shape.specs.Plans.{Plan}
-use Rattle.ceu_stands.specs.Laws.{AreBytes}
-use Rattle.ceu_stands.specs.Values.{WaitingStands}
+use Rattle.laws_machine_layout.specs.Laws.{AreBytes}
+use Rattle.laws_machine_layout.specs.Values.{WaitingStands}
 use Rattle.ceu_trail.specs.Tables.{tables}
 use Rattle.ceu_follows.specs.Kept.{Kept}
 

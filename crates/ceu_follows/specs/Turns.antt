@@ -13,8 +13,8 @@ use Rattle.ceu_tree.specs.Focus.{Focus}
 use Rattle.ceu_tree.specs.World.{World}
 use Rattle.ceu_tree.specs.Run.{Config, Between, Ended, Faulted, steps}
 use Rattle.ceu_shape.specs.Plans.{Plan}
-use Rattle.ceu_stands.specs.Laws.{AreBytes}
-use Rattle.ceu_stands.specs.Values.{BetweenStands}
+use Rattle.laws_machine_layout.specs.Laws.{AreBytes}
+use Rattle.laws_machine_layout.specs.Values.{BetweenStands}
 use Rattle.ceu_endings.specs.Ends.{longest_run}
 use Rattle.ceu_trail.specs.Coming.{SameMarks}
 use Rattle.ceu_trail.specs.Tables.{tables}

@@ -21,11 +21,11 @@ use Rattle.ceu_isa.specs.Fetching.{fetched}
 use Rattle.ceu_isa.specs.Layout.{cell_at}
 use Rattle.ceu_isa.specs.Rows.{effect}
 use Rattle.ceu_isa.specs.Turns.{Machine, Trail, rewritten}
-use Rattle.ceu_fetch.specs.Placed.{Placed}
-use Rattle.ceu_fetch.proofs.Lines.{parts_are_placed}
-use Rattle.ceu_evaluates.specs.Seen.{NodePlaced}
-use Rattle.ceu_evaluates.proofs.Steps.{pops}
-use Rattle.ceu_evaluates.proofs.Works.{bool_some}
+use Rattle.laws_machine_code.specs.Placed.{Placed}
+use Rattle.laws_machine_code.proofs.Lines.{parts_are_placed}
+use Rattle.laws_machine_code.specs.Seen.{NodePlaced}
+use Rattle.laws_machine_code.proofs.Steps.{pops}
+use Rattle.laws_machine_code.proofs.Works.{bool_some}
 use Rattle.ceu_tree.specs.declared.kernel.Kernel.{Kernel}
 use Rattle.ceu_tree.specs.declared.kernel.KArm.{KArm', out-KArm}
 use Rattle.ceu_tree.specs.declared.kernel.KExp.{KExp}
@@ -40,9 +40,9 @@ use Rattle.ceu_tree.specs.Residual.{Program, no_instance}
 use Rattle.ceu_tree.specs.Focus.{Frame, OfBlock}
 use Rattle.ceu_tree.specs.Typing.{typed, holds_all}
 use Rattle.ceu_tree.specs.World.{World}
-use Rattle.ceu_legal.specs.Shape.{block_scope}
-use Rattle.ceu_legal.proofs.Static.{names_of}
-use Rattle.ceu_values.specs.Ready.{exp_has, conditions_have}
+use Rattle.laws_meaning_basics.specs.Shape.{block_scope}
+use Rattle.laws_meaning_basics.proofs.Static.{names_of}
+use Rattle.laws_meaning_values.specs.Ready.{exp_has, conditions_have}
 use Rattle.ceu_shape.specs.Plans.{Plan, own_label}
 use Rattle.ceu_shape.specs.Flow.{arms_lines}
 use Rattle.ceu_shape.specs.Searches.{node_of_block}

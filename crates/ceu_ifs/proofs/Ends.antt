@@ -17,7 +17,7 @@ use Rattle.ceu_tree.specs.Focus.{Frame, OfBlock, OfOpen, Here, In}
 use Rattle.ceu_tree.specs.Around.{Goes, Moved, moved}
 use Rattle.ceu_tree.specs.Step.{stepped}
 use Rattle.ceu_tree.specs.World.{World, assign_if}
-use Rattle.ceu_legal.specs.Shape.{AnEnd, opens_part}
+use Rattle.laws_meaning_basics.specs.Shape.{AnEnd, opens_part}
 use Rattle.ceu_shape.specs.Plans.{Plan, end_label}
 use Rattle.ceu_shape.specs.Searches.{node_of_block}
 use Rattle.ceu_trail.specs.Built.{at_label, ending}

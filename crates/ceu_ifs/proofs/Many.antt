@@ -13,7 +13,7 @@ use Rattle.ceu_tree.specs.Focus.{Frame, Here, In}
 use Rattle.ceu_tree.specs.Around.{Moved}
 use Rattle.ceu_tree.specs.Step.{stepped}
 use Rattle.ceu_tree.specs.World.{World}
-use Rattle.ceu_legal.specs.Shape.{Part}
+use Rattle.laws_meaning_basics.specs.Shape.{Part}
 use Rattle.ceu_shape.specs.Plans.{Plan}
 use Rattle.ceu_trail.specs.Coming.{most_ticks, Reaches, SameMarks, ComesOn, Comes}
 use Rattle.ceu_steps.specs.Running.{Runs, trail_at}

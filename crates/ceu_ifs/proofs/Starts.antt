@@ -9,8 +9,8 @@ use Rattle.ceu_asm.specs.declared.line.Line.{Line}
 use Rattle.ceu_asm.specs.declared.line.Labels.{Labels}
 use Rattle.ceu_asm.specs.Lines.{code_size}
 use Rattle.ceu_isa.specs.Turns.{Machine, rewritten}
-use Rattle.ceu_fetch.specs.Placed.{Placed}
-use Rattle.ceu_fetch.proofs.Lines.{parts_are_placed}
+use Rattle.laws_machine_code.specs.Placed.{Placed}
+use Rattle.laws_machine_code.proofs.Lines.{parts_are_placed}
 use Rattle.ceu_tree.specs.declared.kernel.Kernel.{Kernel}
 use Rattle.ceu_tree.specs.declared.kernel.KArm.{KArm}
 use Rattle.ceu_tree.specs.declared.kernel.KNode.{KNode}
@@ -24,10 +24,10 @@ use Rattle.ceu_tree.specs.Residual.{Program, Begin, Start, no_instance}
 use Rattle.ceu_tree.specs.Focus.{Frame, OfBlock, OfOpen, Here, In}
 use Rattle.ceu_tree.specs.Around.{Moved}
 use Rattle.ceu_tree.specs.World.{World}
-use Rattle.ceu_legal.specs.Shape.{block_scope}
-use Rattle.ceu_legal.proofs.Static.{names_of}
-use Rattle.ceu_values.specs.Ready.{layer_has, conditions_have}
-use Rattle.ceu_stands.specs.Views.{view}
+use Rattle.laws_meaning_basics.specs.Shape.{block_scope}
+use Rattle.laws_meaning_basics.proofs.Static.{names_of}
+use Rattle.laws_meaning_values.specs.Ready.{layer_has, conditions_have}
+use Rattle.laws_machine_layout.specs.Views.{view}
 use Rattle.ceu_shape.specs.Plans.{Plan, own_label, end_label}
 use Rattle.ceu_shape.specs.Flow.{arms_lines, arm_ends, if_lines}
 use Rattle.ceu_shape.specs.Searches.{node_of_block}

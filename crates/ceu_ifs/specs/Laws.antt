@@ -11,7 +11,7 @@ use Rattle.ceu_tree.specs.Proper.{Scope}
 use Rattle.ceu_tree.specs.Residual.{Start, AtEnd, no_instance}
 use Rattle.ceu_tree.specs.Focus.{Frame, OfBlock, OfOpen}
 use Rattle.ceu_tree.specs.World.{World}
-use Rattle.ceu_legal.specs.Shape.{AnEnd, opens_part}
+use Rattle.laws_meaning_basics.specs.Shape.{AnEnd, opens_part}
 use Rattle.ceu_shape.specs.Plans.{Plan}
 use Rattle.ceu_trail.specs.Built.{ending}
 use Rattle.ceu_trail.specs.Compiled.{Compiled}

@@ -1,3 +1,4 @@
 pub mod Telling
 pub mod Offers
 pub mod Shelving
+pub mod Written

@@ -5,3 +5,5 @@ pub mod Shelves
 pub mod Calls
 pub mod Memory
 pub mod Files
+pub mod Prints
+pub mod Place

@@ -1,3 +1,4 @@
 pub mod RowLaws
 pub mod Texts
 pub mod Numbers
+pub mod ShowLaws

@@ -11,7 +11,7 @@ use Rattle.ceu_tree.specs.declared.kernel.KBlock.{KBlock}
 use Rattle.ceu_tree.proofs.Sizes.{stmt_size, block_size, arm_size, node_list_size, arm_list_size, block_list_size, member_node, member_arm, member_block}
 use Rattle.ceu_listing.specs.Rows.{Row, SlotRow, byte_rows, list_rows, AreNumbered}
 use Rattle.ceu_listing.specs.Lines.{line, text}
-use Rattle.ceu_lines.proofs.Written.{next_item}
+use Rattle.ceu_io.proofs.Written.{next_item}
 
 pub text_append : (p : Planned) (g : GatePlan) (xs ys : List Row) → text p g (xs ++ ys) ≡ text p g xs ++ text p g ys
 text_append p g [] ys = refl

@@ -1,6 +1,6 @@
 -- The lines of a listing. The form of these lines is this project's own.
 use Rattle.std.specs.Prelude.{ℕ, List, [], ◌∷◌, ◌++◌, codes, decimal, slice_index}
-use Rattle.ceu_lines.specs.Place.{at_place}
+use Rattle.ceu_io.specs.Place.{at_place}
 use Rattle.ceu_gates.specs.declared.plan.GatePlan.{GatePlan}
 use Rattle.ceu_slots.specs.Plans.{Planned}
 use Rattle.ceu_tree.specs.declared.kernel.Kernel.{Kernel}

@@ -22,7 +22,7 @@ use Rattle.ceu_shape.specs.Expressions.{two_draft, operand_draft, exp_draft}
 use Rattle.ceu_shape.specs.Expressions as lines
 use Rattle.ceu_shape.specs.Flow.{looping_draft}
 use Rattle.ceu_shape.specs.Shape.{node_draft, exp_part, exp_part_if, turn_parts, to_end, parts_draft, block_draft, arm_parts, arms_parts}
-use Rattle.ceu_evaluates.specs.Seen.{OperatorPlaced, NodePlaced, OperandPlaced}
+use Rattle.laws_machine_code.specs.Seen.{OperatorPlaced, NodePlaced, OperandPlaced}
 use Rattle.ceu_steps.specs.Premises.{ExpPlaced, MaybePlaced, ArmsPlaced, TurnsPlaced, LayerPlaced}
 use denote.Hole.Carrier
 

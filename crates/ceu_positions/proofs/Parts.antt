@@ -10,7 +10,7 @@ use Rattle.ceu_tree.specs.declared.kernel.KStmt.{KStmt, out-KStmt, Row_of-KArm, 
 use Rattle.ceu_tree.specs.declared.kernel.KStmt.TheOpen.{KStmt-F}
 use Rattle.ceu_tree.specs.Leaf.{Layer}
 use Rattle.ceu_tree.specs.Focus.{Frame}
-use Rattle.ceu_legal.specs.Shape.{Part, ABlock, AStatement, AnEnd, among_arms, opens_part}
+use Rattle.laws_meaning_basics.specs.Shape.{Part, ABlock, AStatement, AnEnd, among_arms, opens_part}
 use Rattle.ceu_shape.specs.Plans.{Plan}
 use Rattle.ceu_shape.specs.Pieces.{Draft}
 use Rattle.ceu_shape.specs.Shape.{labels_of, expression_count, node_draft, with_parts, exp_part, turn_parts, to_end, parts_draft, block_draft, arm_parts, nodes_draft, arms_parts, codes_draft, program_draft, first_fresh, kernel_piece}

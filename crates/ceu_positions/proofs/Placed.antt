@@ -7,7 +7,7 @@ use Rattle.ceu_code.specs.declared.image.Image.{Image}
 use Rattle.ceu_tree.specs.declared.kernel.Kernel.{Kernel}
 use Rattle.ceu_shape.specs.Plans.{Plan}
 use Rattle.ceu_shape.specs.Shape.{labels_of, kernel_piece, shape_positions, shape}
-use Rattle.ceu_placed.proofs.Few.{listed_positions}
+use Rattle.laws_code_placed.proofs.Few.{listed_positions}
 use Rattle.ceu_trail.specs.Built.{number}
 use Rattle.ceu_trail.specs.Compiled.{Compiled}
 use Rattle.ceu_steps.specs.Premises.{PositionsArePlaced}

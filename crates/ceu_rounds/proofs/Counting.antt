@@ -16,8 +16,8 @@ use Rattle.ceu_isa.specs.Effects.{Effect, Goes, Faults, provided, for_some}
 use Rattle.ceu_isa.specs.Rows.{effect}
 use Rattle.ceu_isa.specs.Cells.{pushed}
 use Rattle.ceu_isa.specs.Turns.{Machine, Trail, rewritten, failing}
-use Rattle.ceu_fetch.proofs.Constants.{cell_small}
-use Rattle.ceu_stands.specs.Laws.{AreBytes}
+use Rattle.laws_machine_code.proofs.Constants.{cell_small}
+use Rattle.laws_machine_layout.specs.Laws.{AreBytes}
 use Rattle.ceu_steps.specs.Running.{Runs, Unseen, trail_at}
 use Rattle.ceu_steps.proofs.Bytes.{number_bytes}
 use Rattle.ceu_steps.proofs.Ticks.{did}

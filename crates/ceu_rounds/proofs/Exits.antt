@@ -15,12 +15,12 @@ use Rattle.ceu_tree.specs.Residual.{Act, Counter, no_instance}
 use Rattle.ceu_tree.specs.Focus.{Frame, OfBlock, OfOpen, OfLoop, Focus, In}
 use Rattle.ceu_tree.specs.Leaf.{Layer, Exit}
 use Rattle.ceu_tree.specs.World.{World}
-use Rattle.ceu_legal.specs.Shape.{Part, ABlock, AStatement, AnEnd, around_statement, around_part, around_turn, none_lives, part_scope, turn_scope, program_part, opens_part, counts}
+use Rattle.laws_meaning_basics.specs.Shape.{Part, ABlock, AStatement, AnEnd, around_statement, around_part, around_turn, none_lives, part_scope, turn_scope, program_part, opens_part, counts}
 use Rattle.ceu_endings.proofs.Aims.{aims_at, Leads, Below, aims_node, leads_below, do_node, turns_aims}
 use Rattle.ceu_trail.specs.Parts.{PartSingle}
 use Rattle.ceu_within.proofs.Exits.{below, AimsLow, frame_aims}
-use Rattle.ceu_stands.specs.Tables.{Tables}
-use Rattle.ceu_stands.specs.Views.{View}
+use Rattle.laws_machine_layout.specs.Tables.{Tables}
+use Rattle.laws_machine_layout.specs.Views.{View}
 use Rattle.ceu_steps.specs.Reached.{wrap, is_whole, Reached, at_program, at_statement, at_end, in_part, in_turn}
 use Rattle.ceu_steps.proofs.Frames.{AllCount}
 use Rattle.ceu_steps.proofs.Scenes.{scene_of}

@@ -18,7 +18,7 @@ use Rattle.ceu_tree.specs.World.{World}
 use Rattle.ceu_shape.specs.Plans.{Plan, own_label}
 use Rattle.ceu_shape.specs.Searches.{node_of_block}
 use Rattle.ceu_shape.specs.Shape.{expression_count}
-use Rattle.ceu_stands.specs.Views.{View, view}
+use Rattle.laws_machine_layout.specs.Views.{View, view}
 use Rattle.ceu_trail.specs.Built.{at_label}
 use Rattle.ceu_trail.specs.Compiled.{Compiled}
 use Rattle.ceu_trail.specs.Coming.{Comes, ComesOn}

@@ -13,7 +13,7 @@ use Rattle.ceu_tree.specs.Leaf as does
 use Rattle.ceu_tree.specs.Leaf.{Done, acted, next_of, rest_of}
 use Rattle.ceu_tree.specs.Around.{Goes, Fails, Past, AtLoopHead, Moved, moved, up, taken, next_turn}
 use Rattle.ceu_tree.specs.Step.{stepped}
-use Rattle.ceu_legal.specs.Shape.{Part}
+use Rattle.laws_meaning_basics.specs.Shape.{Part}
 use Rattle.ceu_steps.specs.Reached.{wrap, filled, Reached}
 use Rattle.ceu_steps.proofs.Frames.{up_goes, up_fails, past_goes, step_is}
 

@@ -8,8 +8,8 @@ use Rattle.ceu_tree.specs.Residual.{Body}
 use Rattle.ceu_tree.specs.Focus.{Frame}
 use Rattle.ceu_tree.specs.World.{World, Cell, Holds, NotSet, Names}
 use Rattle.ceu_shape.specs.Plans.{Plan}
-use Rattle.ceu_stands.specs.Views.{view, slot_number}
-use Rattle.ceu_stands.specs.Values.{CellStands}
+use Rattle.laws_machine_layout.specs.Views.{view, slot_number}
+use Rattle.laws_machine_layout.specs.Values.{CellStands}
 use Rattle.ceu_trail.specs.Tables.{tables}
 use Rattle.ceu_trail.specs.Turning.{home, MemoryHolds}
 use Rattle.ceu_trail.specs.Within.{Variable, OneOf, ValuesWithin}

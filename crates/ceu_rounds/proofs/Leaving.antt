@@ -25,20 +25,20 @@ use Rattle.ceu_tree.specs.Focus.{Frame, OfBlock, OfLoop, Focus, Here, In, plug}
 use Rattle.ceu_tree.specs.Around.{Goes, Past, Leaves, Moved, moved, through, up, taken, loop_left}
 use Rattle.ceu_tree.specs.Step.{stepped}
 use Rattle.ceu_tree.specs.World.{World}
-use Rattle.ceu_legal.specs.Shape.{Part, block_scope, counts}
-use Rattle.ceu_legal.proofs.Static.{names_of}
+use Rattle.laws_meaning_basics.specs.Shape.{Part, block_scope, counts}
+use Rattle.laws_meaning_basics.proofs.Static.{names_of}
 use Rattle.ceu_endings.proofs.Aims.{loop_leads}
 use Rattle.ceu_endings.proofs.Marks.{loop_marks}
 use Rattle.ceu_shape.specs.Plans.{Plan, own_label, end_label}
 use Rattle.ceu_shape.specs.Searches.{node_of_block}
-use Rattle.ceu_stands.specs.Views.{view}
+use Rattle.laws_machine_layout.specs.Views.{view}
 use Rattle.ceu_trail.specs.Built.{at_label, StatementBuilt}
 use Rattle.ceu_trail.specs.Compiled.{Compiled}
 use Rattle.ceu_trail.specs.Coming.{Comes, ComesOn}
 use Rattle.ceu_trail.specs.Tables.{tables}
 use Rattle.ceu_trail.specs.Turning.{turn_end, GoesRoundAt, MemoryHolds}
-use Rattle.ceu_values.specs.Ground.{Ground, Numbered}
-use Rattle.ceu_values.proofs.Counts.{block_nodes_is, stmt_nodes_is, inner_nodes, nodes_all}
+use Rattle.laws_meaning_values.specs.Ground.{Ground, Numbered}
+use Rattle.laws_meaning_values.proofs.Counts.{block_nodes_is, stmt_nodes_is, inner_nodes, nodes_all}
 use Rattle.ceu_steps.specs.Running.{Runs, trail_at}
 use Rattle.ceu_steps.specs.Premises.{BuiltLaws}
 use Rattle.ceu_steps.specs.Reached.{wrap, Reached}

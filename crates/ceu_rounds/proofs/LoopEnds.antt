@@ -5,7 +5,7 @@ use Rattle.ceu_base.specs.declared.kinds.Pos.{Pos}
 use Rattle.ceu_code.specs.declared.image.Image.{Image}
 use Rattle.ceu_code.specs.declared.instr.Instr.TheVariants as instr
 use Rattle.ceu_asm.specs.declared.line.Line.{Line}
-use Rattle.ceu_fetch.specs.Placed.{Placed}
+use Rattle.laws_machine_code.specs.Placed.{Placed}
 use Rattle.ceu_isa.specs.Fetching.{fetched}
 use Rattle.ceu_isa.specs.Turns.{Machine}
 use Rattle.ceu_tree.specs.declared.kernel.Kernel.{Kernel}
@@ -21,7 +21,7 @@ use Rattle.ceu_tree.specs.Focus.{Frame, OfBlock, OfLoop, Here, In}
 use Rattle.ceu_tree.specs.Around.{Moved, moved, Goes, AtBlockEnd, up, taken}
 use Rattle.ceu_tree.specs.Abort.{closed, instances_aborted}
 use Rattle.ceu_tree.specs.World.{World}
-use Rattle.ceu_legal.specs.Shape.{counts}
+use Rattle.laws_meaning_basics.specs.Shape.{counts}
 use Rattle.ceu_shape.specs.Plans.{Plan, end_label}
 use Rattle.ceu_shape.specs.Words.{goto}
 use Rattle.ceu_shape.specs.Searches.{node_of_block}

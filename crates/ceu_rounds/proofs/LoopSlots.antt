@@ -15,10 +15,10 @@ use Rattle.ceu_tree.specs.Numbering.{counts_from, loop_slots}
 use Rattle.ceu_tree.specs.Proper.{Scope}
 use Rattle.ceu_tree.specs.Residual.{Counter, no_instance}
 use Rattle.ceu_tree.specs.Focus.{Frame, OfBlock, OfLoop}
-use Rattle.ceu_legal.specs.Shape.{counts}
+use Rattle.laws_meaning_basics.specs.Shape.{counts}
 use Rattle.ceu_shape.specs.Plans.{Plan}
 use Rattle.ceu_slots.specs.Law.{TurnsSized}
-use Rattle.ceu_values.proofs.Grounds.{hidden_counts}
+use Rattle.laws_meaning_values.proofs.Grounds.{hidden_counts}
 use Rattle.ceu_trail.specs.Compiled.{Compiled}
 use Rattle.ceu_trail.specs.Within.{Variable}
 use Rattle.ceu_steps.specs.Premises.{BuiltLaws}

@@ -7,8 +7,8 @@ use Rattle.ceu_code.specs.declared.image.Image.{Image}
 use Rattle.ceu_code.specs.declared.instr.Instr.TheVariants as instr
 use Rattle.ceu_asm.specs.declared.line.Line.{Line}
 use Rattle.ceu_isa.specs.Fetching.{fetched}
-use Rattle.ceu_fetch.specs.Placed.{Placed}
-use Rattle.ceu_fetch.proofs.Lines.{parts_are_placed}
+use Rattle.laws_machine_code.specs.Placed.{Placed}
+use Rattle.laws_machine_code.proofs.Lines.{parts_are_placed}
 use Rattle.ceu_tree.specs.declared.kernel.Kernel.{Kernel}
 use Rattle.ceu_tree.specs.declared.kernel.KExp.{KExp}
 use Rattle.ceu_tree.specs.declared.kernel.KLoop.TheVariants as turns

@@ -18,7 +18,7 @@ use Rattle.ceu_tree.specs.Residual.{Program, Act, AtHead, Again, Counter, no_ins
 use Rattle.ceu_tree.specs.Focus.{Frame, OfBlock, OfLoop, Here}
 use Rattle.ceu_tree.specs.Step.{stepped}
 use Rattle.ceu_tree.specs.World.{World}
-use Rattle.ceu_legal.specs.Shape.{ABlock, block_scope, turn_scope, counts}
+use Rattle.laws_meaning_basics.specs.Shape.{ABlock, block_scope, turn_scope, counts}
 use Rattle.ceu_endings.specs.Counted.{turns_counted}
 use Rattle.ceu_shape.specs.Plans.{Plan, end_label}
 use Rattle.ceu_shape.specs.Searches.{node_of_block}

@@ -23,11 +23,11 @@ use Rattle.ceu_tree.specs.Residual as residual
 use Rattle.ceu_tree.specs.Focus.{Frame, OfBlock, OfLoop, Here, In}
 use Rattle.ceu_tree.specs.Around.{Moved, moved, Goes, Fails, next_turn}
 use Rattle.ceu_tree.specs.World.{World}
-use Rattle.ceu_legal.specs.Shape.{block_scope}
+use Rattle.laws_meaning_basics.specs.Shape.{block_scope}
 use Rattle.ceu_shape.specs.Plans.{Plan, own_label}
 use Rattle.ceu_shape.specs.Searches.{node_of_block}
 use Rattle.ceu_shape.specs.Shape.{expression_count}
-use Rattle.ceu_stands.specs.Views.{view, slot_number}
+use Rattle.laws_machine_layout.specs.Views.{view, slot_number}
 use Rattle.ceu_trail.specs.Built.{at_label, number, StatementBuilt}
 use Rattle.ceu_trail.specs.Compiled.{Compiled}
 use Rattle.ceu_trail.specs.Coming.{Comes, ComesOn}

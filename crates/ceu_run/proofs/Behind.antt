@@ -3,10 +3,10 @@ use Rattle.std.proofs.Common.{◌≡◌, refl, sym, ap, subst, ℕ, ◌+◌, ◌
 use Rattle.std.specs.Prelude.{◌⊎◌}
 use Rattle.std.proofs.lemmas.List.{take-append-le}
 use Rattle.std.proofs.Math.Seq.{take-append-add}
-use Rattle.ceu_driver.specs.Printing.{commands_of, run_text}
-use Rattle.ceu_driver.specs.Runs.{Whole, StopsReading, StopsWriting, Plays, shown_text}
-use Rattle.ceu_driver.specs.declared.answers.Played.{Played}
-use Rattle.ceu_driver.specs.declared.answers.Played.TheVariants as played
+use Rattle.ceu_run.specs.Printing.{commands_of, run_text}
+use Rattle.ceu_run.specs.Playing.{Whole, StopsReading, StopsWriting, Plays, shown_text}
+use Rattle.ceu_run.specs.declared.answers.Played.{Played}
+use Rattle.ceu_run.specs.declared.answers.Played.TheVariants as played
 use Rattle.ceu_io.specs.Bytes.{Appends, AppendsProperFront}
 use Rattle.ceu_io.specs.Told.{WhereTold}
 use Rattle.ceu_io.proofs.Offers.{appends_then}

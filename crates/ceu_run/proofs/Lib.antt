@@ -1,1 +1,20 @@
+pub mod Fronts
+pub mod Marking
+pub mod DriverNoting
+pub mod Going
+pub mod Settled
+pub mod Idling
+pub mod Commanding
+pub mod Scripting
+pub mod Doing
+pub mod Following
+pub mod Looping
+pub mod ToldDone
+pub mod Finishing
 mod Behind
+pub mod CompiledNoting
+pub mod Agreeing
+pub mod CompiledCommands
+pub mod Ran
+pub mod Resting
+pub mod Idle

@@ -1,2 +1,11 @@
+pub mod Reactions
+pub mod Printing
+pub mod Doing
+pub mod Playing
+pub mod Stops
 pub mod Lines
 pub mod Runs
+pub mod Standing
+pub mod Ran
+pub mod RanLaws
+pub mod Leaves

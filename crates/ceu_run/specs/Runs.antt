@@ -1,10 +1,10 @@
 -- What the run of a program on a script prints, by the reference semantics: a first line, the output lines of boot and of each command that is reached,
 -- and the status line. `n` is any bound on the steps of a reaction that is large enough.
 use Rattle.std.specs.Prelude.{◌≡◌, ◌⊎◌, ℕ, ◌+◌, ◌-◌, ◌<◌, ◌≤◌, false, List, [], ◌++◌, length, take, Option, Some}
-use Rattle.ceu_driver.specs.Printing.{commands_of, IsGood, run_text}
-use Rattle.ceu_driver.specs.Runs.{run_ending, shown_text, script_of, TakesLittle}
-use Rattle.ceu_driver.specs.declared.answers.Played.{Played}
-use Rattle.ceu_driver.specs.declared.answers.Played.TheVariants as played
+use Rattle.ceu_run.specs.Printing.{commands_of, IsGood, run_text}
+use Rattle.ceu_run.specs.Playing.{run_ending, shown_text, script_of, TakesLittle}
+use Rattle.ceu_run.specs.declared.answers.Played.{Played}
+use Rattle.ceu_run.specs.declared.answers.Played.TheVariants as played
 use Rattle.ceu_io.specs.Bytes.{Appends}
 use Rattle.ceu_script.specs.Lines.{Line, script}
 use Rattle.ceu_script.specs.Places.{line_start}

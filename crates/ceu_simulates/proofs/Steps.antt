@@ -21,9 +21,9 @@ use Rattle.ceu_tree.specs.Focus.{Frame, OfBlock, OfOpen, OfLoop, Focus, Here, In
 use Rattle.ceu_tree.specs.Step.{stepped}
 use Rattle.ceu_tree.specs.World.{World}
 use Rattle.ceu_tree.specs.Run.{Turning}
-use Rattle.ceu_legal.specs.Shape.{Part, AStatement, AnEnd, ActFits, begins, heads, goes_again, starts, finishes, ends, opens_part, program_part, block_scope, counts, pauses}
-use Rattle.ceu_values.specs.Ready.{act_has}
-use Rattle.ceu_values.proofs.RunValues.{config_reads}
+use Rattle.laws_meaning_basics.specs.Shape.{Part, AStatement, AnEnd, ActFits, begins, heads, goes_again, starts, finishes, ends, opens_part, program_part, block_scope, counts, pauses}
+use Rattle.laws_meaning_values.specs.Ready.{act_has}
+use Rattle.laws_meaning_values.proofs.RunValues.{config_reads}
 use Rattle.ceu_endings.specs.Counted.{focus_counted, layer_counted}
 use Rattle.ceu_endings.proofs.Shapes.{one_trail, no_codes}
 use Rattle.ceu_single.specs.Single.{stmt_single}

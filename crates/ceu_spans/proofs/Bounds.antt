@@ -11,10 +11,10 @@ use Rattle.ceu_mem.specs.Bytes.{number_at}
 use Rattle.ceu_mem.specs.Memory.{value_at, with_sign}
 use Rattle.ceu_isa.specs.Layout.{slots_at, end_of, in_slots}
 use Rattle.ceu_isa.specs.Slots.{bound_value}
-use Rattle.ceu_results.proofs.Ranges.{Within, within, value_from}
+use Rattle.laws_meaning_values.proofs.Ranges.{Within, within, value_from}
 use Rattle.ceu_shape.specs.Flow.{one_if}
-use Rattle.ceu_stands.proofs.Gates.{cell_small}
-use Rattle.ceu_stands.specs.Views.{slot_number}
+use Rattle.laws_machine_layout.proofs.Gates.{cell_small}
+use Rattle.laws_machine_layout.specs.Views.{slot_number}
 use Rattle.ceu_trail.specs.Within.{CountsWithin}
 use Rattle.ceu_steps.proofs.Numbers.{value_back}
 

@@ -24,7 +24,7 @@ use Rattle.ceu_tree.specs.Around.{Moved}
 use Rattle.ceu_tree.specs.World.{World, Holds, set}
 use Rattle.ceu_shape.specs.Plans.{Plan, own_label, end_label}
 use Rattle.ceu_shape.specs.Searches.{node_of_block}
-use Rattle.ceu_stands.specs.Views.{view, slot_number}
+use Rattle.laws_machine_layout.specs.Views.{view, slot_number}
 use Rattle.ceu_trail.specs.Built.{at_label}
 use Rattle.ceu_trail.specs.Compiled.{Compiled}
 use Rattle.ceu_trail.specs.Coming.{Comes, ComesOn}

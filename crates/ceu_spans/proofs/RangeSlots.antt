@@ -25,7 +25,7 @@ use Rattle.ceu_tree.specs.Focus.{Frame, OfBlock, OfLoop}
 use Rattle.ceu_tree.specs.World.{World, Holds, set}
 use Rattle.ceu_shape.specs.Plans.{Plan}
 use Rattle.ceu_slots.specs.Law.{TurnsSized}
-use Rattle.ceu_stands.specs.Views.{view, slot_number}
+use Rattle.laws_machine_layout.specs.Views.{view, slot_number}
 use Rattle.ceu_trail.specs.Compiled.{Compiled}
 use Rattle.ceu_trail.specs.Tables.{tables}
 use Rattle.ceu_trail.specs.Turning.{FrameCounts, MemoryHolds}

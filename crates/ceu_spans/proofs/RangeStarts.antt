@@ -30,13 +30,13 @@ use Rattle.ceu_tree.specs.Focus.{Frame, OfBlock, OfLoop, Here, In}
 use Rattle.ceu_tree.specs.Around.{Moved}
 use Rattle.ceu_tree.specs.Typing.{typed}
 use Rattle.ceu_tree.specs.World.{World}
-use Rattle.ceu_legal.specs.Shape.{block_scope}
+use Rattle.laws_meaning_basics.specs.Shape.{block_scope}
 use Rattle.ceu_shape.specs.Flow.{one_if}
 use Rattle.ceu_shape.specs.Plans.{Plan, own_label}
 use Rattle.ceu_shape.specs.Shape.{expression_count}
-use Rattle.ceu_values.specs.Ready.{layer_has, exp_has}
-use Rattle.ceu_evaluates.specs.Seen.{NodePlaced}
-use Rattle.ceu_stands.specs.Views.{view, slot_number}
+use Rattle.laws_meaning_values.specs.Ready.{layer_has, exp_has}
+use Rattle.laws_machine_code.specs.Seen.{NodePlaced}
+use Rattle.laws_machine_layout.specs.Views.{view, slot_number}
 use Rattle.ceu_trail.specs.Built.{at_label, number, StatementBuilt}
 use Rattle.ceu_trail.specs.Compiled.{Compiled}
 use Rattle.ceu_trail.specs.Coming.{Comes, ComesOn}

@@ -16,7 +16,7 @@ use Rattle.ceu_tree.specs.Leaf as does
 use Rattle.ceu_tree.specs.Leaf.{acted, next_of, rest_of}
 use Rattle.ceu_tree.specs.Around.{moved, Goes, Past, next_turn}
 use Rattle.ceu_tree.specs.Step.{stepped}
-use Rattle.ceu_legal.specs.Shape.{Part}
+use Rattle.laws_meaning_basics.specs.Shape.{Part}
 use Rattle.ceu_steps.specs.Reached.{wrap, Reached}
 use Rattle.ceu_rounds.proofs.Heads.{turn_goes, turn_passes}
 use denote.Hole.Carrier

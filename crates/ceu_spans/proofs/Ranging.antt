@@ -18,7 +18,7 @@ use Rattle.ceu_isa.specs.Cells.{Popped}
 use Rattle.ceu_isa.specs.Turns.{Machine, Trail, rewritten}
 use Rattle.ceu_steps.specs.Running.{Runs, trail_at}
 use Rattle.ceu_steps.proofs.Lines.{line_runs}
-use Rattle.ceu_evaluates.proofs.Steps.{pops}
+use Rattle.laws_machine_code.proofs.Steps.{pops}
 
 -- so many bytes lie in the slots
 lies_in : (image : Image) (o k : ℕ) → slots_at image + o + k ≤ end_of image → in_slots image (slots_at image + o) k ≡ true

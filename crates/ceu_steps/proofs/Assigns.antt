@@ -12,8 +12,8 @@ use Rattle.ceu_asm.specs.declared.line.Line.{Line}
 use Rattle.ceu_isa.specs.Layout.{slots_at}
 use Rattle.ceu_isa.specs.Fetching.{fetched}
 use Rattle.ceu_isa.specs.Turns.{Machine, rewritten}
-use Rattle.ceu_fetch.specs.Placed.{Placed}
-use Rattle.ceu_fetch.proofs.Lines.{parts_are_placed}
+use Rattle.laws_machine_code.specs.Placed.{Placed}
+use Rattle.laws_machine_code.proofs.Lines.{parts_are_placed}
 use Rattle.ceu_mem.specs.Memory.{with_value}
 use Rattle.ceu_tree.specs.declared.kernel.Kernel.{Kernel}
 use Rattle.ceu_tree.specs.declared.kernel.KExp.{KExp}
@@ -31,13 +31,13 @@ use Rattle.ceu_tree.specs.Focus.{Frame, OfBlock, Here, In}
 use Rattle.ceu_tree.specs.Step.{stepped}
 use Rattle.ceu_tree.specs.Typing.{typed, holds_all}
 use Rattle.ceu_tree.specs.World.{World, assign}
-use Rattle.ceu_legal.specs.Shape.{block_scope}
-use Rattle.ceu_legal.proofs.Static.{names_of}
+use Rattle.laws_meaning_basics.specs.Shape.{block_scope}
+use Rattle.laws_meaning_basics.proofs.Static.{names_of}
 use Rattle.ceu_shape.specs.Plans.{Plan, own_label, end_label}
 use Rattle.ceu_shape.specs.Words.{mark, plain, goto, store}
 use Rattle.ceu_shape.specs.Shape.{parts_draft, exp_part}
-use Rattle.ceu_values.specs.Ready.{layer_has, exp_has}
-use Rattle.ceu_stands.specs.Views.{view}
+use Rattle.laws_meaning_values.specs.Ready.{layer_has, exp_has}
+use Rattle.laws_machine_layout.specs.Views.{view}
 use Rattle.ceu_trail.specs.Built.{at_label, number, StatementBuilt}
 use Rattle.ceu_trail.specs.Compiled.{Compiled}
 use Rattle.ceu_trail.specs.Coming.{Comes}
@@ -48,7 +48,7 @@ use Rattle.ceu_within.proofs.Scopes.{target_in}
 use Rattle.ceu_within.proofs.Leaf.{given_value}
 use Rattle.ceu_steps.specs.Running.{trail_at}
 use Rattle.ceu_steps.specs.Ready.{Brings, Evaluated}
-use Rattle.ceu_evaluates.specs.Seen.{NodePlaced}
+use Rattle.laws_machine_code.specs.Seen.{NodePlaced}
 use Rattle.ceu_steps.specs.Premises.{BuiltLaws, LayerPlaced}
 use Rattle.ceu_steps.specs.Reached.{wrap}
 use Rattle.ceu_steps.specs.Live.{vars_in}

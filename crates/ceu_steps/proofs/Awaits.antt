@@ -30,15 +30,15 @@ use Rattle.ceu_tree.specs.Around.{Moved, Rests}
 use Rattle.ceu_tree.specs.Step.{stepped}
 use Rattle.ceu_tree.specs.Weight.{weight}
 use Rattle.ceu_tree.specs.World.{World}
-use Rattle.ceu_legal.specs.Shape.{block_scope}
-use Rattle.ceu_legal.proofs.Static.{names_of}
+use Rattle.laws_meaning_basics.specs.Shape.{block_scope}
+use Rattle.laws_meaning_basics.proofs.Static.{names_of}
 use Rattle.ceu_shape.specs.Plans.{Plan, own_label}
 use Rattle.ceu_shape.specs.Shape.{parts_draft}
-use Rattle.ceu_stands.specs.Laws.{AreBytes}
-use Rattle.ceu_stands.specs.Stands.{Stands}
-use Rattle.ceu_stands.specs.Views as views
-use Rattle.ceu_stands.specs.Views.{View, view, gate_seen, Keeps}
-use Rattle.ceu_stands.proofs.Gates.{is_gate}
+use Rattle.laws_machine_layout.specs.Laws.{AreBytes}
+use Rattle.laws_machine_layout.specs.Stands.{Stands}
+use Rattle.laws_machine_layout.specs.Views as views
+use Rattle.laws_machine_layout.specs.Views.{View, view, gate_seen, Keeps}
+use Rattle.laws_machine_layout.proofs.Gates.{is_gate}
 use Rattle.ceu_trail.specs.Built.{at_label, StatementBuilt}
 use Rattle.ceu_trail.specs.Compiled.{Compiled}
 use Rattle.ceu_trail.specs.Coming.{Comes}

@@ -7,7 +7,7 @@ use Rattle.ceu_mem.specs.Memory.{with_gate}
 use Rattle.ceu_mem.proofs.Views.{with_number_step, with_number_nothing}
 use Rattle.ceu_code.specs.declared.image.Image.{Image}
 use Rattle.ceu_isa.specs.Layout.{gates_at, gate_put, gate_changed, gate_of}
-use Rattle.ceu_stands.specs.Laws.{AreBytes}
+use Rattle.laws_machine_layout.specs.Laws.{AreBytes}
 
 set_byte : (bytes : List ℕ) (at v : ℕ) → v < 256 → AreBytes bytes → AreBytes (slice_set bytes at v)
 set_byte [] at v lt h i = h i

@@ -11,7 +11,7 @@ use Rattle.ceu_tree.specs.Residual.{Act}
 use Rattle.ceu_tree.specs.Focus.{Frame, Here, In}
 use Rattle.ceu_tree.specs.World.{World}
 use Rattle.ceu_shape.specs.Plans.{Plan}
-use Rattle.ceu_stands.specs.Views.{view}
+use Rattle.laws_machine_layout.specs.Views.{view}
 use Rattle.ceu_trail.specs.Tables.{tables}
 use Rattle.ceu_trail.specs.Turning.{ActAt, MemoryHolds, TurnStands}
 use Rattle.ceu_trail.specs.Coming.{Reaches, SameMarks, ComesOn, ComesToFault}

@@ -8,7 +8,7 @@ use Rattle.ceu_tree.specs.declared.kernel.KBlock.{KBlock, KBlock', out-KBlock, R
 use Rattle.ceu_tree.specs.declared.kernel.KStmt.{KStmt, out-KStmt, Row_of-KArm, end_of-KArm, more_of-KArm, items-the_row-KArm, items_shown-the_row-KArm-0, Do, If', Loop}
 use Rattle.ceu_tree.specs.Depth.{stmt_depth, block_depth, nodes_depth, arms_depth, depth}
 use Rattle.ceu_tree.specs.Focus.{Frame}
-use Rattle.ceu_legal.specs.Shape.{Part, ABlock, AStatement, AnEnd, opens_part, among_arms}
+use Rattle.laws_meaning_basics.specs.Shape.{Part, ABlock, AStatement, AnEnd, opens_part, among_arms}
 use Rattle.ceu_steps.specs.Reached.{Reached, at_program, at_statement, at_end, in_part, in_turn}
 use Rattle.ceu_steps.proofs.Together.{loop_is}
 use denote.Hole.Carrier

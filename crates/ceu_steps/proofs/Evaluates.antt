@@ -24,8 +24,8 @@ use Rattle.ceu_isa.specs.Slots.{here, outer, load_at, store_at}
 use Rattle.ceu_isa.specs.Pools.{Life, Unclear, Over, Lives, life_of, told}
 use Rattle.ceu_isa.specs.Rows.{effect, in_finalizers}
 use Rattle.ceu_isa.specs.Turns.{behind}
-use Rattle.ceu_evaluates.specs.Does.{Does, stays, goes}
-use Rattle.ceu_stands.specs.Laws.{AreBytes}
+use Rattle.laws_machine_code.specs.Does.{Does, stays, goes}
+use Rattle.laws_machine_layout.specs.Laws.{AreBytes}
 use Rattle.ceu_steps.proofs.Bytes.{number_bytes}
 
 -- the gates, the length and the own gate are as they were

@@ -12,8 +12,8 @@ use Rattle.ceu_isa.specs.declared.registers.Registers.{Registers}
 use Rattle.ceu_isa.specs.Layout.{free, gates_at, gate_of}
 use Rattle.ceu_isa.specs.Fetching.{fetched}
 use Rattle.ceu_isa.specs.Turns.{Machine, State, Trail, rewritten, behind, failing}
-use Rattle.ceu_fetch.specs.Placed.{Placed}
-use Rattle.ceu_fetch.proofs.Lines.{parts_are_placed}
+use Rattle.laws_machine_code.specs.Placed.{Placed}
+use Rattle.laws_machine_code.proofs.Lines.{parts_are_placed}
 use Rattle.ceu_tree.specs.declared.kernel.Kernel.{Kernel}
 use Rattle.ceu_tree.specs.declared.kernel.KExp.{KExp}
 use Rattle.ceu_tree.specs.Expressions.{Answer, value_of}
@@ -23,11 +23,11 @@ use Rattle.ceu_shape.specs.Plans.{Plan}
 use Rattle.ceu_shape.specs.Words.{goto}
 use Rattle.ceu_shape.specs.Expressions.{exp_draft}
 use Rattle.ceu_shape.specs.Shape.{exp_part}
-use Rattle.ceu_evaluates.specs.Does.{steps_of, Gives}
-use Rattle.ceu_evaluates.proofs.Nodes.{expressions_evaluate}
-use Rattle.ceu_evaluates.proofs.Numbers.{number_agrees}
-use Rattle.ceu_evaluates.proofs.Ticks.{instructions_are_steps}
-use Rattle.ceu_stands.specs.Views.{no_gate}
+use Rattle.laws_machine_code.specs.Does.{steps_of, Gives}
+use Rattle.laws_machine_code.proofs.Nodes.{expressions_evaluate}
+use Rattle.laws_machine_code.proofs.Numbers.{number_agrees}
+use Rattle.laws_machine_code.proofs.Ticks.{instructions_are_steps}
+use Rattle.laws_machine_layout.specs.Views.{no_gate}
 use Rattle.ceu_trail.specs.Built.{at_label, number}
 use Rattle.ceu_trail.specs.Turning.{MemoryHolds}
 use Rattle.ceu_steps.specs.Running.{Runs, trail_at}

@@ -5,7 +5,7 @@ use Rattle.ceu_tree.specs.declared.kernel.Kernel.{Kernel}
 use Rattle.ceu_tree.specs.declared.kernel.KNode.{KNode}
 use Rattle.ceu_tree.specs.Residual.{Act, Instances, no_instance}
 use Rattle.ceu_tree.specs.Focus.{Frame, OfBlock, OfOpen, OfLoop, Focus, Here, In, leaf}
-use Rattle.ceu_legal.specs.Shape.{Part, around_statement, around_end, around_instance, around_part, around_turn, around_call, around_branch, Around, nothing_around, one_around}
+use Rattle.laws_meaning_basics.specs.Shape.{Part, around_statement, around_end, around_instance, around_part, around_turn, around_call, around_branch, Around, nothing_around, one_around}
 use Rattle.ceu_endings.specs.OneTrail.{PlainFrame, PlainFocus}
 use Rattle.ceu_trail.specs.Within.{in_frame, in_focus}
 use Rattle.ceu_steps.specs.Reached.{wrap, Reached, at_statement, at_end, in_part, in_turn}

@@ -19,9 +19,9 @@ use Rattle.ceu_isa.specs.Effects.{Goes, provided}
 use Rattle.ceu_isa.specs.Cells.{pushed}
 use Rattle.ceu_isa.specs.Rows.{effect}
 use Rattle.ceu_isa.specs.Turns.{Machine, Trail, rewritten}
-use Rattle.ceu_fetch.specs.Placed.{Placed}
-use Rattle.ceu_evaluates.specs.Does.{Does, stays, goes}
-use Rattle.ceu_evaluates.proofs.Steps.{pushes, cell_value}
+use Rattle.laws_machine_code.specs.Placed.{Placed}
+use Rattle.laws_machine_code.specs.Does.{Does, stays, goes}
+use Rattle.laws_machine_code.proofs.Steps.{pushes, cell_value}
 use Rattle.ceu_tree.specs.declared.kernel.Kernel.{Kernel}
 use Rattle.ceu_tree.specs.declared.kernel.KExp.{KExp}
 use Rattle.ceu_tree.specs.declared.kernel.KNode.{KNode}
@@ -38,13 +38,13 @@ use Rattle.ceu_tree.specs.Focus.{Frame, OfBlock, Here, In}
 use Rattle.ceu_tree.specs.Step.{stepped}
 use Rattle.ceu_tree.specs.Typing.{same_ty, holds_all}
 use Rattle.ceu_tree.specs.World.{World, assign, assign_if}
-use Rattle.ceu_legal.specs.Shape.{block_scope}
-use Rattle.ceu_legal.proofs.Static.{names_of}
+use Rattle.laws_meaning_basics.specs.Shape.{block_scope}
+use Rattle.laws_meaning_basics.proofs.Static.{names_of}
 use Rattle.ceu_shape.specs.Plans.{Plan, own_label, end_label}
 use Rattle.ceu_shape.specs.Words.{plain, goto, store}
 use Rattle.ceu_shape.specs.Searches.{input_ty, ty_or_none}
 use Rattle.ceu_shape.specs.Shape.{parts_draft}
-use Rattle.ceu_stands.specs.Views.{view}
+use Rattle.laws_machine_layout.specs.Views.{view}
 use Rattle.ceu_trail.specs.Built.{at_label, StatementBuilt}
 use Rattle.ceu_trail.specs.Compiled.{Compiled}
 use Rattle.ceu_trail.specs.Coming.{Comes}

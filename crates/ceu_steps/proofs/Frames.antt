@@ -13,10 +13,10 @@ use Rattle.ceu_tree.specs.Leaf as does
 use Rattle.ceu_tree.specs.Leaf.{Done, acted, next_of, rest_of}
 use Rattle.ceu_tree.specs.Around.{Outcome, Goes, Rests, Fails, Past, Moved, moved, through, up, taken}
 use Rattle.ceu_tree.specs.Step.{does_in, stepped}
-use Rattle.ceu_legal.specs.Shape.{Part}
+use Rattle.laws_meaning_basics.specs.Shape.{Part}
 use Rattle.ceu_shape.specs.Plans.{Plan}
-use Rattle.ceu_stands.specs.Tables.{Tables}
-use Rattle.ceu_stands.specs.Views.{View}
+use Rattle.laws_machine_layout.specs.Tables.{Tables}
+use Rattle.laws_machine_layout.specs.Views.{View}
 use Rattle.ceu_trail.specs.Turning.{FrameCounts, Counted, ActAt, FocusAt}
 use Rattle.ceu_steps.specs.Reached.{wrap, filled, is_whole, Reached, at_program, at_statement, at_end, in_part, in_turn}
 

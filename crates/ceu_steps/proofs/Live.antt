@@ -19,7 +19,7 @@ use Rattle.ceu_tree.specs.Numbering.{decl_slots, loop_slots, stmt_slots, block_s
 use Rattle.ceu_tree.specs.Proper.{Scope}
 use Rattle.ceu_tree.specs.Residual.{Counter, no_instance}
 use Rattle.ceu_tree.specs.Focus.{Frame, OfBlock, OfLoop}
-use Rattle.ceu_legal.specs.Shape.{Part, ABlock, AStatement}
+use Rattle.laws_meaning_basics.specs.Shape.{Part, ABlock, AStatement}
 use Rattle.ceu_mem.specs.Memory.{size}
 use Rattle.ceu_slots.specs.Law.{StmtTogether, BlockTogether, Disjoint, DeclsSized, StmtSized, TurnsSized, declared_size, KeepsPlaces}
 use Rattle.ceu_trail.specs.Within.{Variable, declared, all_declared, turned, looped}

@@ -19,10 +19,10 @@ use Rattle.ceu_isa.specs.Effects.{Goes, provided, for_some}
 use Rattle.ceu_isa.specs.Cells.{Popped, popped, popped_unless_none}
 use Rattle.ceu_isa.specs.Rows.{effect}
 use Rattle.ceu_isa.specs.Turns.{Machine, Trail, rewritten, changed}
-use Rattle.ceu_fetch.specs.Placed.{Placed}
-use Rattle.ceu_evaluates.proofs.Steps.{pops}
-use Rattle.ceu_evaluates.specs.Seen.{NodePlaced}
-use Rattle.ceu_results.proofs.Operators.{same_is}
+use Rattle.laws_machine_code.specs.Placed.{Placed}
+use Rattle.laws_machine_code.proofs.Steps.{pops}
+use Rattle.laws_machine_code.specs.Seen.{NodePlaced}
+use Rattle.laws_meaning_values.proofs.Operators.{same_is}
 use Rattle.ceu_tree.specs.declared.kernel.Kernel.{Kernel}
 use Rattle.ceu_tree.specs.declared.kernel.KExp.{KExp}
 use Rattle.ceu_tree.specs.declared.kernel.KNode.{KNode}
@@ -38,14 +38,14 @@ use Rattle.ceu_tree.specs.Focus.{Frame, OfBlock, Here, In}
 use Rattle.ceu_tree.specs.Step.{stepped}
 use Rattle.ceu_tree.specs.Typing.{typed, holds_all, same_ty}
 use Rattle.ceu_tree.specs.World.{World, marked}
-use Rattle.ceu_legal.specs.Shape.{block_scope}
-use Rattle.ceu_legal.proofs.Static.{names_of}
+use Rattle.laws_meaning_basics.specs.Shape.{block_scope}
+use Rattle.laws_meaning_basics.proofs.Static.{names_of}
 use Rattle.ceu_shape.specs.Plans.{Plan, own_label, end_label}
 use Rattle.ceu_shape.specs.Words.{mark, plain, goto}
 use Rattle.ceu_shape.specs.Searches.{output_ty, ty_or_none}
 use Rattle.ceu_shape.specs.Shape.{parts_draft, exp_part}
-use Rattle.ceu_values.specs.Ready.{layer_has, exp_has}
-use Rattle.ceu_stands.specs.Views.{view}
+use Rattle.laws_meaning_values.specs.Ready.{layer_has, exp_has}
+use Rattle.laws_machine_layout.specs.Views.{view}
 use Rattle.ceu_trail.specs.Built.{at_label, number, StatementBuilt}
 use Rattle.ceu_trail.specs.Compiled.{Compiled}
 use Rattle.ceu_trail.specs.Coming.{Comes}

@@ -9,7 +9,7 @@ use Rattle.ceu_tree.specs.Legal.{finalizers_of}
 use Rattle.ceu_tree.specs.Proper.{Scope}
 use Rattle.ceu_tree.specs.Residual.{Act, AtEnd, no_instance}
 use Rattle.ceu_tree.specs.Focus.{Frame, OfBlock, OfOpen, OfLoop, Focus, Here, In}
-use Rattle.ceu_legal.specs.Shape.{Part, ABlock, FrameFits, around_statement, around_end, around_part, around_turn, Around, nothing_around, one_around, none_lives, program_part}
+use Rattle.laws_meaning_basics.specs.Shape.{Part, ABlock, FrameFits, around_statement, around_end, around_part, around_turn, Around, nothing_around, one_around, none_lives, program_part}
 use Rattle.ceu_shape.specs.Plans.{Plan, end_label}
 use Rattle.ceu_trail.specs.Built.{at_label, PartBuilt, ListBuilt}
 use Rattle.ceu_trail.specs.Compiled.{Compiled}

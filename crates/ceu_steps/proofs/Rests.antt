@@ -31,17 +31,17 @@ use Rattle.ceu_tree.specs.Proper.{Scope}
 use Rattle.ceu_tree.specs.Residual.{Program, Residual, Block, Open, Loop, no_instance}
 use Rattle.ceu_tree.specs.Focus.{Frame, OfBlock, OfOpen, OfLoop}
 use Rattle.ceu_tree.specs.World.{World}
-use Rattle.ceu_legal.specs.Shape.{Part, ABlock, AStatement, around_statement, around_part, around_turn, none_lives, block_scope, part_scope, turn_scope}
+use Rattle.laws_meaning_basics.specs.Shape.{Part, ABlock, AStatement, around_statement, around_part, around_turn, none_lives, block_scope, part_scope, turn_scope}
 use Rattle.ceu_shape.specs.Plans.{Plan}
 use Rattle.ceu_shape.specs.Searches.{node_of_block}
 use Rattle.ceu_single.specs.Single.{is_variable, is_variable_decl}
-use Rattle.ceu_evaluates.proofs.Numbers.{number_agrees}
-use Rattle.ceu_stands.specs.Laws.{AreBytes}
-use Rattle.ceu_stands.specs.Parts.{finalizers, pools_gates, Vacant, VacantIn, decl_gates}
-use Rattle.ceu_stands.specs.Stands.{Stands}
-use Rattle.ceu_stands.specs.Tables.{Tables}
-use Rattle.ceu_stands.specs.Views as views
-use Rattle.ceu_stands.specs.Views.{View, view, slot_number, gate_seen, no_gate, Home}
+use Rattle.laws_machine_code.proofs.Numbers.{number_agrees}
+use Rattle.laws_machine_layout.specs.Laws.{AreBytes}
+use Rattle.laws_machine_layout.specs.Parts.{finalizers, pools_gates, Vacant, VacantIn, decl_gates}
+use Rattle.laws_machine_layout.specs.Stands.{Stands}
+use Rattle.laws_machine_layout.specs.Tables.{Tables}
+use Rattle.laws_machine_layout.specs.Views as views
+use Rattle.laws_machine_layout.specs.Views.{View, view, slot_number, gate_seen, no_gate, Home}
 use Rattle.ceu_trail.specs.Compiled.{Compiled}
 use Rattle.ceu_trail.specs.Coming.{ComesToRest}
 use Rattle.ceu_trail.specs.Parts.{part_gates}

@@ -26,11 +26,11 @@ use Rattle.ceu_tree.specs.Proper.{Scope, Seen, IsLoopVariable, find, slot_kind, 
 use Rattle.ceu_tree.specs.Residual.{no_instance}
 use Rattle.ceu_tree.specs.Typing.{same_ty}
 use Rattle.ceu_tree.specs.Focus.{Frame}
-use Rattle.ceu_legal.specs.Shape.{Part, ABlock, AStatement, AnEnd, block_scope, part_scope, turn_scope, opens_part, among_arms, around_statement, around_part, around_turn, none_lives}
-use Rattle.ceu_legal.proofs.Static.{names_of, BlockOk, StmtOk, nodes_fine, arms_fine, layer_fine, block_static, stmt_static, program_static}
+use Rattle.laws_meaning_basics.specs.Shape.{Part, ABlock, AStatement, AnEnd, block_scope, part_scope, turn_scope, opens_part, among_arms, around_statement, around_part, around_turn, none_lives}
+use Rattle.laws_meaning_basics.proofs.Static.{names_of, BlockOk, StmtOk, nodes_fine, arms_fine, layer_fine, block_static, stmt_static, program_static}
 use Rattle.ceu_single.specs.Single.{block_single, is_variable_decl, is_variable}
-use Rattle.ceu_values.specs.Ground.{Ground, Numbered}
-use Rattle.ceu_values.proofs.Grounds.{list_ground, inner_ground, hidden_counts, part_ground, program_ground}
+use Rattle.laws_meaning_values.specs.Ground.{Ground, Numbered}
+use Rattle.laws_meaning_values.proofs.Grounds.{list_ground, inner_ground, hidden_counts, part_ground, program_ground}
 use Rattle.ceu_trail.specs.Parts.{PartSingle}
 use Rattle.ceu_trail.specs.Within.{Variable, declared, all_declared, turned, looped}
 use Rattle.ceu_within.proofs.Widths.{variable, none_there, one_there, of_decl}

@@ -23,11 +23,11 @@ use Rattle.ceu_tree.specs.Focus.{Frame}
 use Rattle.ceu_tree.specs.Typing.{node_typed, operand_typed, same_ty, typed}
 use Rattle.ceu_tree.specs.World.{World, Cell, Holds, NotSet, Names, look, place_of}
 use Rattle.ceu_shape.specs.Plans.{Plan}
-use Rattle.ceu_values.specs.Ground.{has}
-use Rattle.ceu_values.specs.Ready.{node_has, operand_has, exp_has}
-use Rattle.ceu_evaluates.specs.Does.{Kept}
-use Rattle.ceu_evaluates.specs.Seen.{address, VariableSeen, NodeSeen, OperandSeen, NodePlaced}
-use Rattle.ceu_evaluates.proofs.Numbers.{number_agrees}
+use Rattle.laws_meaning_values.specs.Ground.{has}
+use Rattle.laws_meaning_values.specs.Ready.{node_has, operand_has, exp_has}
+use Rattle.laws_machine_code.specs.Does.{Kept}
+use Rattle.laws_machine_code.specs.Seen.{address, VariableSeen, NodeSeen, OperandSeen, NodePlaced}
+use Rattle.laws_machine_code.proofs.Numbers.{number_agrees}
 use Rattle.ceu_trail.specs.Built.{number}
 use Rattle.ceu_trail.specs.Turning.{MemoryHolds}
 use Rattle.ceu_trail.specs.Within.{Variable, IsHeld, ValuesWithin}

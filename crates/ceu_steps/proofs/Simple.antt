@@ -16,10 +16,10 @@ use Rattle.ceu_tree.specs.Focus.{Frame, OfBlock, Here, In}
 use Rattle.ceu_tree.specs.Around.{Moved}
 use Rattle.ceu_tree.specs.Step.{stepped}
 use Rattle.ceu_tree.specs.World.{World}
-use Rattle.ceu_legal.specs.Shape.{ABlock}
+use Rattle.laws_meaning_basics.specs.Shape.{ABlock}
 use Rattle.ceu_shape.specs.Plans.{Plan, own_label, end_label}
 use Rattle.ceu_shape.specs.Shape.{parts_draft}
-use Rattle.ceu_stands.specs.Views.{view}
+use Rattle.laws_machine_layout.specs.Views.{view}
 use Rattle.ceu_trail.specs.Built.{at_label, StatementBuilt}
 use Rattle.ceu_trail.specs.Compiled.{Compiled}
 use Rattle.ceu_trail.specs.Tables.{tables}

@@ -31,12 +31,12 @@ use Rattle.ceu_tree.specs.Focus.{Frame, OfLoop}
 use Rattle.ceu_tree.specs.World.{World, Cell, Holds, NotSet, Names, Held, look, put, is_at, assign, place_of}
 use Rattle.ceu_shape.specs.Plans.{Plan}
 use Rattle.ceu_slots.specs.Law.{TurnsSized}
-use Rattle.ceu_values.proofs.Stores.{same_self}
-use Rattle.ceu_evaluates.proofs.Steps.{pops}
-use Rattle.ceu_stands.specs.Views as views
-use Rattle.ceu_stands.specs.Views.{View, view, slot_number, gate_seen, no_gate, Home}
-use Rattle.ceu_stands.specs.Values.{CellStands, ValuesStand}
-use Rattle.ceu_stands.specs.Parts.{TurnsStand, CounterStands}
+use Rattle.laws_meaning_values.proofs.Stores.{same_self}
+use Rattle.laws_machine_code.proofs.Steps.{pops}
+use Rattle.laws_machine_layout.specs.Views as views
+use Rattle.laws_machine_layout.specs.Views.{View, view, slot_number, gate_seen, no_gate, Home}
+use Rattle.laws_machine_layout.specs.Values.{CellStands, ValuesStand}
+use Rattle.laws_machine_layout.specs.Parts.{TurnsStand, CounterStands}
 use Rattle.ceu_trail.specs.Tables.{tables}
 use Rattle.ceu_trail.specs.Turning.{home, FrameCounts, MemoryHolds}
 use Rattle.ceu_trail.specs.Within.{OneOf, ValuesWithin}

@@ -21,12 +21,12 @@ use Rattle.ceu_isa.specs.Rows.{effect}
 use Rattle.ceu_isa.specs.Trails as trails
 use Rattle.ceu_isa.specs.Trails.{kept_until, pause, unit_time}
 use Rattle.ceu_isa.specs.Turns.{Machine, rewritten}
-use Rattle.ceu_fetch.specs.Placed.{Placed}
-use Rattle.ceu_evaluates.specs.Seen.{NodePlaced}
-use Rattle.ceu_evaluates.proofs.Steps.{pops}
-use Rattle.ceu_results.specs.Results.{IsResult}
-use Rattle.ceu_results.proofs.Operators.{held_value}
-use Rattle.ceu_results.proofs.Results.{results_are_values}
+use Rattle.laws_machine_code.specs.Placed.{Placed}
+use Rattle.laws_machine_code.specs.Seen.{NodePlaced}
+use Rattle.laws_machine_code.proofs.Steps.{pops}
+use Rattle.laws_meaning_values.specs.Results.{IsResult}
+use Rattle.laws_meaning_values.proofs.Operators.{held_value}
+use Rattle.laws_meaning_values.proofs.Results.{results_are_values}
 use Rattle.ceu_tree.specs.declared.kernel.Kernel.{Kernel}
 use Rattle.ceu_tree.specs.declared.kernel.KExp.{KExp}
 use Rattle.ceu_tree.specs.declared.kernel.KNode.{KNode}
@@ -47,16 +47,16 @@ use Rattle.ceu_tree.specs.Around.{Moved}
 use Rattle.ceu_tree.specs.Step.{stepped}
 use Rattle.ceu_tree.specs.Typing.{typed, is_amount, is_open, same_ty, holds_all}
 use Rattle.ceu_tree.specs.World.{World}
-use Rattle.ceu_legal.specs.Shape.{block_scope}
-use Rattle.ceu_legal.proofs.Static.{names_of}
+use Rattle.laws_meaning_basics.specs.Shape.{block_scope}
+use Rattle.laws_meaning_basics.proofs.Static.{names_of}
 use Rattle.ceu_shape.specs.Flow.{time_unit}
 use Rattle.ceu_shape.specs.Plans.{Plan, own_label, end_label}
 use Rattle.ceu_shape.specs.Words.{mark}
 use Rattle.ceu_shape.specs.Shape.{parts_draft, exp_part}
-use Rattle.ceu_values.specs.Ready.{layer_has, exp_has}
-use Rattle.ceu_stands.specs.Stands.{Stands}
-use Rattle.ceu_stands.specs.Views as views
-use Rattle.ceu_stands.specs.Views.{View, view, Keeps}
+use Rattle.laws_meaning_values.specs.Ready.{layer_has, exp_has}
+use Rattle.laws_machine_layout.specs.Stands.{Stands}
+use Rattle.laws_machine_layout.specs.Views as views
+use Rattle.laws_machine_layout.specs.Views.{View, view, Keeps}
 use Rattle.ceu_trail.specs.Built.{at_label, number, StatementBuilt}
 use Rattle.ceu_trail.specs.Compiled.{Compiled}
 use Rattle.ceu_trail.specs.Coming.{Comes}

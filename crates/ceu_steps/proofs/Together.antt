@@ -8,9 +8,9 @@ use Rattle.ceu_tree.specs.declared.kernel.KBlock.{KBlock, KBlock', out-KBlock, R
 use Rattle.ceu_tree.specs.declared.kernel.KStmt.{KStmt, out-KStmt, Row_of-KArm, end_of-KArm, more_of-KArm, items-the_row-KArm, items_shown-the_row-KArm-0, Do, If', Loop}
 use Rattle.ceu_tree.specs.declared.kernel.KStmt.TheOpen.{KStmt-F}
 use Rattle.ceu_tree.specs.Numbering.{decl_slots, loop_slots, stmt_slots, block_slots, arms_slots}
-use Rattle.ceu_legal.specs.Shape.{opens_part, among_arms}
+use Rattle.laws_meaning_basics.specs.Shape.{opens_part, among_arms}
 use Rattle.ceu_slots.specs.Law.{StmtTogether, BlockTogether, NodesTogether, ArmsTogether, DeclsSized, StmtSized, BlockSized, NodesSized, ArmsSized, TurnsSized}
-use Rattle.ceu_values.proofs.Counts.{slots_all, block_slots_is}
+use Rattle.laws_meaning_values.proofs.Counts.{slots_all, block_slots_is}
 use denote.Hole.Carrier
 
 -- ---- statements of a block

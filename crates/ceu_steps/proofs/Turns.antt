@@ -21,14 +21,14 @@ use Rattle.ceu_tree.specs.Around.{Moved}
 use Rattle.ceu_tree.specs.Step.{stepped}
 use Rattle.ceu_tree.specs.Typing.{typed}
 use Rattle.ceu_tree.specs.World.{World}
-use Rattle.ceu_legal.specs.Shape.{Part, ABlock, AStatement, block_scope}
-use Rattle.ceu_legal.proofs.Static.{names_of, StmtOk}
+use Rattle.laws_meaning_basics.specs.Shape.{Part, ABlock, AStatement, block_scope}
+use Rattle.laws_meaning_basics.proofs.Static.{names_of, StmtOk}
 use Rattle.ceu_shape.specs.Plans.{Plan}
 use Rattle.ceu_shape.specs.Shape.{shape}
-use Rattle.ceu_stands.specs.Views.{View}
-use Rattle.ceu_stands.specs.Tables.{Tables}
-use Rattle.ceu_values.specs.Ready.{layer_has, exp_has}
-use Rattle.ceu_evaluates.specs.Seen.{NodePlaced}
+use Rattle.laws_machine_layout.specs.Views.{View}
+use Rattle.laws_machine_layout.specs.Tables.{Tables}
+use Rattle.laws_meaning_values.specs.Ready.{layer_has, exp_has}
+use Rattle.laws_machine_code.specs.Seen.{NodePlaced}
 use Rattle.ceu_trail.specs.Built.{number}
 use Rattle.ceu_trail.specs.Compiled.{Compiled}
 use Rattle.ceu_trail.specs.Coming.{Comes}

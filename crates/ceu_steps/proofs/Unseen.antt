@@ -17,14 +17,14 @@ use Rattle.ceu_isa.specs.Layout.{free, gates_at, slots_at, end_of, in_slots, gat
 use Rattle.ceu_isa.specs.Safety.{Fits}
 use Rattle.ceu_mem.proofs.Views.{length-with_number, byte_outside}
 use Rattle.ceu_shape.specs.Plans.{Plan}
-use Rattle.ceu_evaluates.specs.Does.{Kept}
-use Rattle.ceu_evaluates.proofs.Numbers.{number_agrees}
-use Rattle.ceu_stands.specs.Tables.{Tables}
-use Rattle.ceu_stands.specs.Views as views
-use Rattle.ceu_stands.specs.Views.{View, view, slot_number, gate_seen, no_gate, Home}
-use Rattle.ceu_stands.specs.Values.{CellStands, ValuesStand}
-use Rattle.ceu_stands.specs.Parts.{TurnsStand, CounterStands}
-use Rattle.ceu_stands.specs.Laws.{AreBytes}
+use Rattle.laws_machine_code.specs.Does.{Kept}
+use Rattle.laws_machine_code.proofs.Numbers.{number_agrees}
+use Rattle.laws_machine_layout.specs.Tables.{Tables}
+use Rattle.laws_machine_layout.specs.Views as views
+use Rattle.laws_machine_layout.specs.Views.{View, view, slot_number, gate_seen, no_gate, Home}
+use Rattle.laws_machine_layout.specs.Values.{CellStands, ValuesStand}
+use Rattle.laws_machine_layout.specs.Parts.{TurnsStand, CounterStands}
+use Rattle.laws_machine_layout.specs.Laws.{AreBytes}
 use Rattle.ceu_trail.specs.Tables.{tables}
 use Rattle.ceu_trail.specs.Turning.{home, FrameCounts, Counted, MemoryHolds}
 use Rattle.ceu_steps.specs.Running.{Unseen}

@@ -9,8 +9,8 @@ use Rattle.ceu_tree.specs.Residual.{Body, no_instance}
 use Rattle.ceu_tree.specs.World.{World, Cell, Holds, NotSet, Names, look, is_among, marked, forget, forget_declared}
 use Rattle.ceu_tree.specs.Abort.{closed, instances_aborted}
 use Rattle.ceu_shape.specs.Plans.{Plan}
-use Rattle.ceu_stands.specs.Views.{View, view, Home}
-use Rattle.ceu_stands.specs.Values.{CellStands}
+use Rattle.laws_machine_layout.specs.Views.{View, view, Home}
+use Rattle.laws_machine_layout.specs.Values.{CellStands}
 use Rattle.ceu_trail.specs.Turning.{home, MemoryHolds}
 use Rattle.ceu_within.proofs.Looks.{forgotten}
 

@@ -9,7 +9,7 @@ use Rattle.ceu_tree.specs.declared.kernel.KStmt.TheOpen.{KStmt-F}
 use Rattle.ceu_tree.specs.Leaf.{Layer}
 use Rattle.ceu_tree.specs.Numbering.{decl_slots, loop_slots, stmt_slots, block_slots}
 use Rattle.ceu_tree.specs.Focus.{Frame, OfBlock, OfLoop}
-use Rattle.ceu_legal.specs.Shape.{Part, ABlock, AStatement, AnEnd}
+use Rattle.laws_meaning_basics.specs.Shape.{Part, ABlock, AStatement, AnEnd}
 use Rattle.ceu_slots.specs.Law.{StmtTogether, BlockTogether, StmtSized, BlockSized, TurnsSized, Disjoint}
 use Rattle.ceu_mem.specs.Memory.{size}
 use Rattle.ceu_trail.specs.Within.{Variable, in_frame}

@@ -13,9 +13,9 @@ use Rattle.ceu_tree.specs.declared.kernel.KStmt.TheOpen.{KStmt-F}
 use Rattle.ceu_tree.specs.Leaf.{Layer}
 use Rattle.ceu_tree.specs.Focus.{Frame}
 use Rattle.ceu_tree.specs.Proper.{Scope}
-use Rattle.ceu_legal.specs.Shape.{AStatement}
+use Rattle.laws_meaning_basics.specs.Shape.{AStatement}
 use Rattle.ceu_shape.specs.Plans.{Plan}
-use Rattle.ceu_evaluates.specs.Seen.{NodePlaced}
+use Rattle.laws_machine_code.specs.Seen.{NodePlaced}
 use Rattle.ceu_trail.specs.Built.{number}
 use Rattle.ceu_trail.specs.Compiled.{Compiled}
 use Rattle.ceu_trail.specs.PartLaws.{ProgramIsBuilt, FramesAreBuilt, BlocksOpen, ListsBegin, GatesAreFirst, GatesNest, StopsAreThere}

@@ -10,7 +10,7 @@ use Rattle.ceu_tree.specs.Residual.{Counter, Residual, no_instance}
 use Rattle.ceu_tree.specs.Focus.{Frame, OfBlock, OfOpen, OfLoop, Focus, In, fill}
 use Rattle.ceu_tree.specs.Legal.{finalizers_of}
 use Rattle.ceu_tree.specs.Proper.{Scope}
-use Rattle.ceu_legal.specs.Shape.{Part, ABlock, AStatement, AnEnd, block_scope, part_scope, turn_scope, program_part, opens_part, counts}
+use Rattle.laws_meaning_basics.specs.Shape.{Part, ABlock, AStatement, AnEnd, block_scope, part_scope, turn_scope, program_part, opens_part, counts}
 
 -- a focus inside these frames
 abbrev pub wrap : {A : Type 0} → List Frame → Focus A → Focus A

@@ -18,8 +18,8 @@ use Rattle.ceu_tree.specs.Residual.{Program}
 use Rattle.ceu_tree.specs.Typing.{typed}
 use Rattle.ceu_tree.specs.World.{World}
 use Rattle.ceu_shape.specs.Plans.{Plan}
-use Rattle.ceu_results.specs.Results.{Reads}
-use Rattle.ceu_evaluates.specs.Seen.{Visible, NodePlaced}
+use Rattle.laws_meaning_values.specs.Results.{Reads}
+use Rattle.laws_machine_code.specs.Seen.{Visible, NodePlaced}
 use Rattle.ceu_trail.specs.Built.{number}
 use Rattle.ceu_steps.specs.Running.{Runs, Unseen, trail_at}
 

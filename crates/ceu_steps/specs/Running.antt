@@ -4,7 +4,7 @@ use Rattle.ceu_code.specs.declared.image.Image.{Image}
 use Rattle.ceu_isa.specs.declared.registers.Registers.{Registers}
 use Rattle.ceu_isa.specs.Layout.{gates_at, slots_at}
 use Rattle.ceu_isa.specs.Turns.{State, ticks}
-use Rattle.ceu_stands.specs.Laws.{AreBytes}
+use Rattle.laws_machine_layout.specs.Laws.{AreBytes}
 
 -- from one state to another in at most n steps
 pub record Runs (image : Image) (n : ℕ) (from to : State) : Type 0 where

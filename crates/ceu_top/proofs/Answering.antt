@@ -15,10 +15,10 @@ use Rattle.ceu_compile.specs.Programs.{IsProgram, IsBroken}
 use Rattle.ceu_compile.specs.Trees.{HasTree, IsTreeRefusal}
 use Rattle.ceu_compile.specs.declared.errors.CompileError.{CompileError}
 use Rattle.ceu_compile.specs.declared.errors.CompileError.TheVariants as broken
-use Rattle.ceu_driver.proofs.Fronts.{front_behind, front_of_more}
-use Rattle.ceu_driver.specs.Runs.{PlayCause}
-use Rattle.ceu_driver.specs.declared.answers.Played.{Played}
-use Rattle.ceu_driver.specs.declared.answers.Played.TheVariants as played
+use Rattle.ceu_run.proofs.Fronts.{front_behind, front_of_more}
+use Rattle.ceu_run.specs.Playing.{PlayCause}
+use Rattle.ceu_run.specs.declared.answers.Played.{Played}
+use Rattle.ceu_run.specs.declared.answers.Played.TheVariants as played
 use Rattle.ceu_forms.specs.Forms.{first_unbuilt}
 use Rattle.ceu_io.specs.Bytes.{Appends, AppendsProperFront}
 use Rattle.ceu_gates.specs.Ranges.{first_gate, gate_count, IsByNode}
@@ -37,7 +37,7 @@ use Rattle.ceu_listing.specs.Lines.{listing_text}
 use Rattle.ceu_print.specs.Statements.{program_text}
 use Rattle.ceu_run.specs.Lines.{memory_line}
 use Rattle.ceu_run.specs.Runs.{RunPrints}
-use Rattle.ceu_show.specs.Shown.{show_text}
+use Rattle.ceu_listing.specs.Shown.{show_text}
 use Rattle.ceu_slots.specs.Plans.{Planned, HasPlaces}
 use Rattle.ceu_tree.specs.Costs.{bounds}
 use Rattle.ceu_tree.specs.Needs.{memory}

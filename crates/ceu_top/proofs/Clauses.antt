@@ -1,9 +1,9 @@
 -- The clauses of `ceu`, from the one answer that holds all of them.
 use Rattle.std.proofs.Common.{◌≡◌, ◌≢◌, refl, sym, subst, ℕ, ◌<◌, ◌⊎◌, inl, inr, arith, List, [], length, Option, Some, None, Err}
 use Rattle.std.specs.Prelude.{IfSome, MatchOption, String}
-use Rattle.ceu_driver.specs.Runs.{TakesLittle}
-use Rattle.ceu_driver.specs.declared.answers.Played.{Played}
-use Rattle.ceu_driver.specs.declared.answers.Played.TheVariants as played
+use Rattle.ceu_run.specs.Playing.{TakesLittle}
+use Rattle.ceu_run.specs.declared.answers.Played.{Played}
+use Rattle.ceu_run.specs.declared.answers.Played.TheVariants as played
 use Rattle.ceu_io.specs.Bytes.{Appends}
 use Rattle.ceu_io.specs.Counts.{Rose, Quiet}
 use Rattle.ceu_io.specs.Told.{WhereTold}

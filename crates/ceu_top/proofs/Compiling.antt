@@ -5,12 +5,12 @@ use Rattle.ceu_bound.specs.declared.bounds.Bounds.{Bounds}
 use Rattle.ceu_code.specs.declared.image.Image.{Image}
 use Rattle.ceu_compile.specs.Images.{IsImageOf}
 use Rattle.ceu_compile.specs.Programs.{IsProgram}
-use Rattle.ceu_compiled.specs.Standing.{IsCompiled}
+use Rattle.ceu_run.specs.Standing.{IsCompiled}
 use Rattle.ceu_endings.proofs.Running.{one_turn_in_bounds}
 use Rattle.ceu_forms.specs.Forms.{first_unbuilt}
 use Rattle.ceu_forms.proofs.Same.{runs_single}
-use Rattle.ceu_images.specs.Laws.{IsSmall, joined}
-use Rattle.ceu_images.proofs.Made.{images_compiled}
+use Rattle.laws_promise_texts.specs.ImagesLaws.{IsSmall, joined}
+use Rattle.laws_promise_texts.proofs.Made.{images_compiled}
 use Rattle.ceu_single.specs.Single.{Single}
 use Rattle.ceu_trail.specs.Compiled.{Compiled}
 use Rattle.ceu_tree.specs.Costs.{bounds}

@@ -5,11 +5,11 @@ use Rattle.std.specs.Global.{Vec}
 use Rattle.ceu_code.specs.declared.image.Image.{Image}
 use Rattle.ceu_compile.specs.Images.{IsImageOf}
 use Rattle.ceu_compile.specs.Programs.{IsProgram}
-use Rattle.ceu_driver.specs.Printing.{commands_of}
-use Rattle.ceu_driver.specs.declared.answers.Played.{Played}
-use Rattle.ceu_driver.specs.declared.answers.Played.TheVariants as played
-use Rattle.ceu_image_run.specs.Leaves as run
-use Rattle.ceu_image_run.specs.Leaves.{IsOf, Leaves}
+use Rattle.ceu_run.specs.Printing.{commands_of}
+use Rattle.ceu_run.specs.declared.answers.Played.{Played}
+use Rattle.ceu_run.specs.declared.answers.Played.TheVariants as played
+use Rattle.ceu_run.specs.Leaves as run
+use Rattle.ceu_run.specs.Leaves.{IsOf, Leaves}
 use Rattle.ceu_react.specs.Sessions.{Seen}
 use Rattle.ceu_run.specs.Runs.{lines_of}
 use Rattle.ceu_tree.specs.declared.kernel.Kernel.{Kernel}

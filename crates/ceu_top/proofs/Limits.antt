@@ -7,7 +7,7 @@ use Rattle.ceu_tree.specs.Needs.{memory, gates, slots}
 use Rattle.ceu_tree.specs.Weight.{weight}
 use Rattle.ceu_compile.specs.Programs.{IsProgram}
 use Rattle.ceu_compile.specs.Sizes.{over, too_large}
-use Rattle.ceu_images.specs.Laws.{IsSmall}
+use Rattle.laws_promise_texts.specs.ImagesLaws.{IsSmall}
 
 under_slots : (d g s w : ℕ) → over (16 + 8 * d + 19 * g + s) g w ≡ None → s ≤ 65535
 under_slots d g s w e = grind (arith, nat_tests)

@@ -1,8 +1,8 @@
 -- What the parts of `ceu` answer, from the last one up.
 use Rattle.std.specs.Prelude.{◌≡◌, ◌⊎◌, ℕ, ◌≤◌, List, length, Option, Some, None, IfSome, Result, Ok, Err, String}
-use Rattle.ceu_driver.specs.Runs.{PlayCause}
-use Rattle.ceu_driver.specs.declared.answers.Played.{Played}
-use Rattle.ceu_driver.specs.declared.answers.Played.TheVariants as played
+use Rattle.ceu_run.specs.Playing.{PlayCause}
+use Rattle.ceu_run.specs.declared.answers.Played.{Played}
+use Rattle.ceu_run.specs.declared.answers.Played.TheVariants as played
 use Rattle.ceu_io.specs.Bytes.{Appends, AppendsProperFront}
 use Rattle.ceu_io.specs.Counts.{Rose}
 use Rattle.ceu_io.specs.Told.{WhereTold}

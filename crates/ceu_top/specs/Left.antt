@@ -2,8 +2,8 @@
 use Rattle.std.specs.Prelude.{◌≡◌, List, ℕ, Option, Some, None, IfSome, MatchOption, String}
 use Rattle.ceu_compile.specs.Images.{IsImageOf}
 use Rattle.ceu_compile.specs.Programs.{IsProgram}
-use Rattle.ceu_compiled.specs.Ran.{HasRun}
-use Rattle.ceu_driver.specs.Printing.{commands_of}
+use Rattle.ceu_run.specs.Ran.{HasRun}
+use Rattle.ceu_run.specs.Printing.{commands_of}
 use Rattle.ceu_react.specs.Sessions.{Seen}
 use Rattle.ceu_run.specs.Runs.{lines_of}
 use Rattle.ceu_tree.specs.declared.kernel.Kernel.{Kernel}

@@ -8,10 +8,10 @@ use Rattle.ceu_code.specs.Spelling.{LongestBeginning, Spells}
 use Rattle.ceu_code.specs.declared.image.Image.{Image}
 use Rattle.ceu_compile.specs.Programs.{IsProgram, Breaks}
 use Rattle.ceu_compile.specs.Trees.{HasTree, HasNoTree}
-use Rattle.ceu_driver.specs.Printing.{run_text}
-use Rattle.ceu_driver.specs.Runs.{TakesLittle}
-use Rattle.ceu_driver.specs.declared.answers.Played.{Played}
-use Rattle.ceu_driver.specs.declared.answers.Played.TheVariants as played
+use Rattle.ceu_run.specs.Printing.{run_text}
+use Rattle.ceu_run.specs.Playing.{TakesLittle}
+use Rattle.ceu_run.specs.declared.answers.Played.{Played}
+use Rattle.ceu_run.specs.declared.answers.Played.TheVariants as played
 use Rattle.ceu_io.specs.Bytes.{Appends, AppendsProperFront}
 use Rattle.ceu_io.specs.Counts.{Quiet}
 use Rattle.ceu_io.specs.Told.{WhereTold}
@@ -23,7 +23,7 @@ use Rattle.ceu_listing.specs.Lines.{listing_text}
 use Rattle.ceu_print.specs.Statements.{program_text}
 use Rattle.ceu_run.specs.Lines.{memory_line}
 use Rattle.ceu_run.specs.Runs.{IsRun, IsCut, IsUpTo, lines_of}
-use Rattle.ceu_show.specs.Shown.{show_text}
+use Rattle.ceu_listing.specs.Shown.{show_text}
 use Rattle.ceu_slots.specs.Plans.{Planned, HasPlaces}
 use Rattle.ceu_tree.specs.Costs.{bounds}
 use Rattle.ceu_tree.specs.Needs.{memory}

@@ -14,11 +14,10 @@ use crate::words::Mode;
 use crate::writing::refuse;
 use ceu_base::Rule;
 use ceu_compile::{CompileError, Program, image_of_program, program_of};
-use ceu_driver::Played;
 use ceu_forms::first_unbuilt;
-use ceu_image_run::run;
 use ceu_io::{Sink, Source};
 use ceu_react::Session;
+use ceu_run::{Played, run};
 use std::alloc::Global;
 
 /// Runs a text that breaks no rule on the script, or prints the line of the first that it breaks.

@@ -6,7 +6,7 @@ ghost use Rattle.ceu_top.specs.Answering.{IsWritten};
 ghost use Rattle.ceu_code.specs.Spelling.{HasSpelling};
 ghost use Rattle.ceu_listing.specs.Lines.{listing_text};
 ghost use Rattle.ceu_tree.specs.Proper.{Proper};
-ghost use Rattle.ceu_show.specs.Shown as shown;
+ghost use Rattle.ceu_listing.specs.Shown as shown;
 ghost use Rattle.ceu_top.specs.Lines.{refusal_line, no_image_line};
 
 use crate::lines::write_lines;
@@ -17,9 +17,8 @@ use ceu_code::Image;
 use ceu_compile::Program;
 use ceu_gates::GatePlan;
 use ceu_io::{Failed, Sink};
-use ceu_listing::listing;
+use ceu_listing::{listing, show};
 use ceu_run::write_memory;
-use ceu_show::show;
 use ceu_slots::{OverlapPlaces, Places};
 
 fn status_of(written: Result<(), Failed>, whole: Status) -> Status

@@ -6,8 +6,8 @@ use Rattle.ceu_base.specs.declared.kinds.Pos.{Pos}
 use Rattle.ceu_code.specs.declared.image.Image.{Image}
 use Rattle.ceu_asm.specs.declared.line.Line.{Line}
 use Rattle.ceu_asm.specs.Lines.{code_size}
-use Rattle.ceu_fetch.specs.Placed.{Placed}
-use Rattle.ceu_fetch.proofs.Lines.{parts_are_placed}
+use Rattle.laws_machine_code.specs.Placed.{Placed}
+use Rattle.laws_machine_code.proofs.Lines.{parts_are_placed}
 use Rattle.ceu_tree.specs.declared.kernel.Kernel.{Kernel}
 use Rattle.ceu_tree.specs.declared.kernel.KLoop.{KLoop}
 use Rattle.ceu_tree.specs.declared.kernel.KLoop.TheVariants as turns
@@ -17,7 +17,7 @@ use Rattle.ceu_tree.specs.declared.kernel.KStmt.{KStmt, out-KStmt, Nothing, Assi
 use Rattle.ceu_tree.specs.declared.kernel.KStmt.TheOpen.{KStmt-F}
 use Rattle.ceu_tree.specs.Residual.{Act}
 use Rattle.ceu_tree.specs.Focus.{Frame, Focus, Here, In}
-use Rattle.ceu_legal.specs.Shape.{Part, FrameFits, around_statement, around_end, around_instance, around_part, around_turn, around_call, around_branch, Around, nothing_around, one_around, program_part}
+use Rattle.laws_meaning_basics.specs.Shape.{Part, FrameFits, around_statement, around_end, around_instance, around_part, around_turn, around_call, around_branch, Around, nothing_around, one_around, program_part}
 use Rattle.ceu_shape.specs.Plans.{Plan, own_label, end_label}
 use Rattle.ceu_shape.specs.Pieces.{Draft}
 use Rattle.ceu_shape.specs.Words.{mark}

@@ -5,8 +5,8 @@ use Rattle.ceu_base.specs.declared.kinds.Pos.{Pos}
 use Rattle.ceu_code.specs.declared.image.Image.{Image}
 use Rattle.ceu_asm.specs.declared.line.Line.{Line}
 use Rattle.ceu_asm.specs.Lines.{code_size}
-use Rattle.ceu_fetch.specs.Placed.{Placed}
-use Rattle.ceu_fetch.proofs.Lines.{parts_are_placed}
+use Rattle.laws_machine_code.specs.Placed.{Placed}
+use Rattle.laws_machine_code.proofs.Lines.{parts_are_placed}
 use Rattle.ceu_shape.specs.Pieces.{Piece, Draft, joined, both, text}
 
 pub record Cut {A : Type 0} (whole part : List A) : Type 0 where

@@ -18,7 +18,7 @@ use Rattle.ceu_tree.specs.Focus.{Frame}
 use Rattle.ceu_tree.proofs.GateLaws.{gates_of_block}
 use Rattle.ceu_gates.specs.declared.ranges.GateRange.{GateRange}
 use Rattle.ceu_gates.specs.Ranges.{range, starts, stmt_ranges, block_ranges, nodes_ranges, arms_ranges, node_ranges}
-use Rattle.ceu_legal.specs.Shape.{Part, ABlock, AStatement, AnEnd, among_arms, opens_part, FrameFits, around_statement, around_end, around_instance, around_part, around_turn, around_call, around_branch}
+use Rattle.laws_meaning_basics.specs.Shape.{Part, ABlock, AStatement, AnEnd, among_arms, opens_part, FrameFits, around_statement, around_end, around_instance, around_part, around_turn, around_call, around_branch}
 use Rattle.ceu_shape.specs.Searches.{node_of_block}
 use Rattle.ceu_single.specs.Single.{is_variable, is_variable_decl, stmt_single, block_single, nodes_single, Single}
 use Rattle.ceu_trail.specs.Parts.{PartSingle}

@@ -10,7 +10,7 @@ use Rattle.ceu_tree.specs.declared.kernel.KBlock.{KBlock, KBlock', out-KBlock, R
 use Rattle.ceu_tree.specs.declared.kernel.KStmt.{KStmt, out-KStmt, Row_of-KArm, end_of-KArm, more_of-KArm, items-the_row-KArm, items_shown-the_row-KArm-0, Do, If', Loop}
 use Rattle.ceu_tree.specs.declared.kernel.KStmt.TheOpen.{KStmt-F}
 use Rattle.ceu_tree.specs.Leaf.{Layer}
-use Rattle.ceu_legal.specs.Shape.{among_arms, opens_part}
+use Rattle.laws_meaning_basics.specs.Shape.{among_arms, opens_part}
 use Rattle.ceu_shape.specs.Plans.{Plan, own_label, end_label}
 use Rattle.ceu_shape.specs.Pieces.{Piece, Draft, joined, both, text}
 use Rattle.ceu_shape.specs.Words.{mark, goto}

@@ -11,8 +11,8 @@ use Rattle.ceu_tree.specs.declared.kernel.KStmt.{KStmt, Finalize}
 use Rattle.ceu_tree.specs.Legal.{is_finalizer, finalizers_of}
 use Rattle.ceu_shape.specs.Searches.{node_of_block}
 use Rattle.ceu_single.specs.Single.{is_variable, is_variable_decl, stmt_single, block_single, nodes_single}
-use Rattle.ceu_stands.specs.Parts.{decl_gates, pools_gates}
-use Rattle.ceu_stands.specs.Tables.{Tables}
+use Rattle.laws_machine_layout.specs.Parts.{decl_gates, pools_gates}
+use Rattle.laws_machine_layout.specs.Tables.{Tables}
 use Rattle.ceu_trail.specs.Plain.{BlocksArePlain}
 use Rattle.ceu_trail.proofs.Singles.{last_holds, first_holds, AllSingle, list_single}
 use denote.Hole.Carrier

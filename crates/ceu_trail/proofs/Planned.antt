@@ -14,7 +14,7 @@ use Rattle.ceu_tree.specs.Focus.{Frame, Focus, Here, In}
 use Rattle.ceu_gates.specs.declared.ranges.GateRange.{GateRange}
 use Rattle.ceu_gates.specs.Ranges.{range, node_ranges, stmt_ranges, block_ranges, codes_ranges, ranges, number_of, the_first, the_count, first_gate, gate_count, nodes}
 use Rattle.ceu_gates.proofs.Numbered.{block_numbers}
-use Rattle.ceu_legal.specs.Shape.{Part, ABlock, AStatement, AnEnd, FrameFits, Around, nothing_around, one_around, program_part}
+use Rattle.laws_meaning_basics.specs.Shape.{Part, ABlock, AStatement, AnEnd, FrameFits, Around, nothing_around, one_around, program_part}
 use Rattle.ceu_shape.specs.Plans.{Plan}
 use Rattle.ceu_shape.specs.Searches.{node_of_block}
 use Rattle.ceu_shape.specs.Shape.{shape}

@@ -14,7 +14,7 @@ use Rattle.ceu_tree.specs.declared.kernel.KBlock.{KBlock, KBlock', out-KBlock, R
 use Rattle.ceu_tree.specs.declared.kernel.KStmt.{KStmt, out-KStmt, Row_of-KArm, end_of-KArm, more_of-KArm, items-the_row-KArm, items_shown-the_row-KArm-0, Finalize, Do, If'}
 use Rattle.ceu_tree.specs.Leaf.{code_at}
 use Rattle.ceu_tree.specs.Needs.{finalizers, nodes_finalizers}
-use Rattle.ceu_legal.specs.Shape.{among_arms, opens_part}
+use Rattle.laws_meaning_basics.specs.Shape.{among_arms, opens_part}
 use Rattle.ceu_shape.specs.Plans.{Plan}
 use Rattle.ceu_shape.specs.Shape.{pool_gates, pools_gates, pool_line, pool_lines, own_gates, move_lines, block_begin, abort_own, block_end}
 use Rattle.ceu_single.specs.Single.{is_variable, is_variable_decl, stmt_single, block_single, nodes_single, arms_single, has_no_code, Single}

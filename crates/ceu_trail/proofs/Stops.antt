@@ -17,7 +17,7 @@ use Rattle.ceu_tree.specs.Numbering.{block_nodes, codes_nodes}
 use Rattle.ceu_tree.specs.Proper.{Proper}
 use Rattle.ceu_tree.specs.Residual.{Act}
 use Rattle.ceu_tree.specs.Focus.{Frame, Focus, Here, In}
-use Rattle.ceu_legal.specs.Shape.{Part, ABlock, AStatement, AnEnd, FrameFits, around_statement, around_end, around_instance, around_part, around_turn, around_call, around_branch, Around, nothing_around, one_around, program_part}
+use Rattle.laws_meaning_basics.specs.Shape.{Part, ABlock, AStatement, AnEnd, FrameFits, around_statement, around_end, around_instance, around_part, around_turn, around_call, around_branch, Around, nothing_around, one_around, program_part}
 use Rattle.ceu_shape.specs.Plans.{Plan, own_label}
 use Rattle.ceu_shape.specs.Pieces.{Finishes, Stop, stop}
 use Rattle.ceu_shape.specs.Searches.{node_of_block}

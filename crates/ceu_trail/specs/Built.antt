@@ -7,11 +7,11 @@ use Rattle.ceu_code.specs.declared.image.Image.{Image}
 use Rattle.ceu_code.specs.declared.instr.Instr.TheVariants as instr
 use Rattle.ceu_asm.specs.declared.line.Line.{Line}
 use Rattle.ceu_asm.specs.Lines.{offset_of}
-use Rattle.ceu_fetch.specs.Placed.{Placed}
+use Rattle.laws_machine_code.specs.Placed.{Placed}
 use Rattle.ceu_tree.specs.declared.kernel.Kernel.{Kernel}
 use Rattle.ceu_tree.specs.declared.kernel.KNode.{KNode}
 use Rattle.ceu_tree.specs.declared.kernel.KBlock.{KBlock, KBlock', Row_of-KNode, end_of-KNode, more_of-KNode}
-use Rattle.ceu_legal.specs.Shape.{Part, ABlock, AStatement, AnEnd}
+use Rattle.laws_meaning_basics.specs.Shape.{Part, ABlock, AStatement, AnEnd}
 use Rattle.ceu_shape.specs.Plans.{Plan, own_label, end_label}
 use Rattle.ceu_shape.specs.Pieces.{Draft, numbered, both, nothing}
 use Rattle.ceu_shape.specs.Words.{mark, plain, goto}

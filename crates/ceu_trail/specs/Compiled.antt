@@ -1,7 +1,7 @@
 -- A program of one trail that was compiled: its image has the code of its kernel, by a plan of its slots and one of its gates.
 use Rattle.std.specs.Prelude.{◌≡◌, ℕ, ◌<◌, ◌≤◌, ◌^◌, List, length}
 use Rattle.ceu_code.specs.declared.image.Image.{Image}
-use Rattle.ceu_fetch.specs.Placed.{Placed}
+use Rattle.laws_machine_code.specs.Placed.{Placed}
 use Rattle.ceu_gates.specs.Ranges.{nodes, first_gate, gate_count}
 use Rattle.ceu_isa.specs.Layout.{end_of}
 use Rattle.ceu_single.specs.Single.{Single}

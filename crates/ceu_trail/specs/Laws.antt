@@ -9,8 +9,8 @@ use Rattle.ceu_tree.specs.Focus.{Focus, Here, In}
 use Rattle.ceu_tree.specs.Step.{stepped}
 use Rattle.ceu_tree.specs.World.{World}
 use Rattle.ceu_tree.specs.Run.{Turning}
-use Rattle.ceu_legal.specs.Shape.{Part, Around, TurnFits, program_part}
-use Rattle.ceu_values.specs.Needed.{Valued}
+use Rattle.laws_meaning_basics.specs.Shape.{Part, Around, TurnFits, program_part}
+use Rattle.laws_meaning_values.specs.Needed.{Valued}
 use Rattle.ceu_endings.specs.Counted.{Counted}
 use Rattle.ceu_shape.specs.Plans.{Plan}
 use Rattle.ceu_trail.specs.Built.{PartBuilt}

@@ -7,7 +7,7 @@ use Rattle.ceu_tree.specs.declared.kernel.KNode.{KNode}
 use Rattle.ceu_tree.specs.declared.kernel.KBlock.{KBlock}
 use Rattle.ceu_tree.specs.Residual.{Act}
 use Rattle.ceu_tree.specs.Focus.{Frame, Focus}
-use Rattle.ceu_legal.specs.Shape.{Part, FrameFits, Around, program_part}
+use Rattle.laws_meaning_basics.specs.Shape.{Part, FrameFits, Around, program_part}
 use Rattle.ceu_shape.specs.Plans.{Plan, own_label}
 use Rattle.ceu_single.specs.Single.{stmt_single, block_single, Single}
 use Rattle.ceu_trail.specs.Built.{at_label, BlockBuilt, ListBuilt, PartBuilt}

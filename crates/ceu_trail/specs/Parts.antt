@@ -10,7 +10,7 @@ use Rattle.ceu_tree.specs.declared.kernel.KStmt.{out-KStmt}
 use Rattle.ceu_tree.specs.declared.kernel.KStmt.TheOpen.{KStmt-F}
 use Rattle.ceu_tree.specs.declared.kernel.Loc.{Loc}
 use Rattle.ceu_tree.specs.declared.kernel.Unit.{Unit as TimeUnit}
-use Rattle.ceu_legal.specs.Shape.{Part, ABlock, AStatement, AnEnd}
+use Rattle.laws_meaning_basics.specs.Shape.{Part, ABlock, AStatement, AnEnd}
 use Rattle.ceu_shape.specs.Plans.{Plan, own_label, end_label}
 use Rattle.ceu_shape.specs.Searches.{node_of_block}
 use Rattle.ceu_single.specs.Single.{stmt_single, block_single}

@@ -5,8 +5,8 @@ use Rattle.ceu_tree.specs.declared.kernel.KBlock.{KBlock, out-KBlock}
 use Rattle.ceu_tree.specs.Legal.{finalizers_of}
 use Rattle.ceu_shape.specs.Searches.{node_of_block}
 use Rattle.ceu_single.specs.Single.{block_single}
-use Rattle.ceu_stands.specs.Parts.{pools_gates}
-use Rattle.ceu_stands.specs.Tables.{Tables}
+use Rattle.laws_machine_layout.specs.Parts.{pools_gates}
+use Rattle.laws_machine_layout.specs.Tables.{Tables}
 
 pub record BlockPlain (b : KBlock) : Type 0 where
   pub node_is : (out-KBlock b).node ≡ node_of_block b

@@ -4,7 +4,7 @@ use Rattle.ceu_tree.specs.declared.kernel.Kernel.{Kernel}
 use Rattle.ceu_shape.specs.Plans.{Plan}
 use Rattle.ceu_shape.specs.Searches.{body_node, event_number, pool_row}
 use Rattle.ceu_shape.specs.Shape.{shape_positions, begin_offset, finish_offset, turn_offset}
-use Rattle.ceu_stands.specs.Tables.{Tables}
+use Rattle.laws_machine_layout.specs.Tables.{Tables}
 
 -- `width` gives the bytes of a slot
 abbrev pub tables : Plan → (width : ℕ → ℕ) → Kernel → Tables

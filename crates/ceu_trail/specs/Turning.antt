@@ -18,11 +18,11 @@ use Rattle.ceu_tree.specs.Focus.{Frame, OfBlock, OfLoop, Focus, Here, In}
 use Rattle.ceu_tree.specs.World.{World}
 use Rattle.ceu_shape.specs.Plans.{Plan, own_label, end_label}
 use Rattle.ceu_shape.specs.Searches.{node_of_block}
-use Rattle.ceu_stands.specs.Laws.{AreBytes}
-use Rattle.ceu_stands.specs.Parts.{CounterStands}
-use Rattle.ceu_stands.specs.Tables.{Tables}
-use Rattle.ceu_stands.specs.Values.{ValuesStand}
-use Rattle.ceu_stands.specs.Views.{View, view, Free, Home}
+use Rattle.laws_machine_layout.specs.Laws.{AreBytes}
+use Rattle.laws_machine_layout.specs.Parts.{CounterStands}
+use Rattle.laws_machine_layout.specs.Tables.{Tables}
+use Rattle.laws_machine_layout.specs.Values.{ValuesStand}
+use Rattle.laws_machine_layout.specs.Views.{View, view, Free, Home}
 use Rattle.ceu_trail.specs.Built.{at_label, ListBuilt, IsHead}
 use Rattle.ceu_trail.specs.Tables.{tables}
 

@@ -15,7 +15,7 @@ use Rattle.ceu_tree.specs.Abort.{aborted}
 use Rattle.ceu_tree.specs.Leaf.{Exit, Escape, Break, Continue, next_of, rest_of}
 use Rattle.ceu_tree.specs.Around.{Outcome, Goes, Rests, Raises, Fails, Past, Registers, AtBlockEnd, AtLoopHead, Ends, Leaves, value_with, body_left}
 use Rattle.ceu_tree.specs.Proper.{Scope, Aim, DoAim, BodyAim, LoopAim, do_aim}
-use Rattle.ceu_legal.specs.Shape.{Part, ABlock, AStatement, AnEnd, aimed}
+use Rattle.laws_meaning_basics.specs.Shape.{Part, ABlock, AStatement, AnEnd, aimed}
 use Rattle.ceu_endings.specs.OneTrail.{PlainFocus}
 use Rattle.ceu_trail.specs.Within.{Variable, all_declared, in_focus, in_rest, ValuesWithin, focus_within, act_brings, rest_within}
 use Rattle.ceu_within.proofs.Widths.{with_nothing, ungroup, closed_within, aborted_within}

@@ -14,11 +14,11 @@ use Rattle.ceu_tree.specs.Leaf.{Layer}
 use Rattle.ceu_tree.specs.Numbering.{counts_from, stmt_slots, stmt_nodes, block_slots, block_nodes}
 use Rattle.ceu_tree.specs.Proper.{Scope, Aim}
 use Rattle.ceu_tree.specs.World.{is_among}
-use Rattle.ceu_legal.specs.Shape.{Part, ABlock, AStatement, AnEnd, part_scope, turn_scope, opens_part, aim_node, aimed, FrameFits, around_statement, around_end, around_instance, around_part, around_turn, around_call, around_branch}
-use Rattle.ceu_values.specs.Ground.{Ground, Numbered, On}
-use Rattle.ceu_values.proofs.Stores.{or_left, or_right}
-use Rattle.ceu_values.proofs.Counts.{counted_within, nodes_all, block_nodes_is}
-use Rattle.ceu_values.proofs.Grounds.{part_ground, inner_ground}
+use Rattle.laws_meaning_basics.specs.Shape.{Part, ABlock, AStatement, AnEnd, part_scope, turn_scope, opens_part, aim_node, aimed, FrameFits, around_statement, around_end, around_instance, around_part, around_turn, around_call, around_branch}
+use Rattle.laws_meaning_values.specs.Ground.{Ground, Numbered, On}
+use Rattle.laws_meaning_values.proofs.Stores.{or_left, or_right}
+use Rattle.laws_meaning_values.proofs.Counts.{counted_within, nodes_all, block_nodes_is}
+use Rattle.laws_meaning_values.proofs.Grounds.{part_ground, inner_ground}
 use Rattle.ceu_endings.specs.OneTrail.{PlainFrame}
 
 abbrev pub below : ℕ → List Aim → Type 0

@@ -28,12 +28,12 @@ use Rattle.ceu_tree.specs.Leaf as does
 use Rattle.ceu_tree.specs.Leaf.{Layer, Exit, Escape, Break, Continue, Does, Done, or_fails, target, target_of, chosen_part, loop_reached, started, next_of, acted}
 use Rattle.ceu_tree.specs.Typing.{node_typed, operand_typed, typed, holds_all, same_ty}
 use Rattle.ceu_tree.specs.Proper.{Scope, Aim, DoAim, BodyAim, LoopAim, reads, asks, takes, takes_if, gives, gives_if, on_ty, port_ty, escape_ok, loop_ok, time_ok, stmt_ok, is_trail, outside_finalizers}
-use Rattle.ceu_legal.specs.Shape.{pauses}
-use Rattle.ceu_legal.proofs.Static.{names_of}
-use Rattle.ceu_results.specs.Results.{NodeReads, OperandReads, Reads, IsResult}
-use Rattle.ceu_results.proofs.Results.{results_are_values}
-use Rattle.ceu_results.proofs.Operators.{held_value}
-use Rattle.ceu_results.proofs.Ranges.{Within, within}
+use Rattle.laws_meaning_basics.specs.Shape.{pauses}
+use Rattle.laws_meaning_basics.proofs.Static.{names_of}
+use Rattle.laws_meaning_values.specs.Results.{NodeReads, OperandReads, Reads, IsResult}
+use Rattle.laws_meaning_values.proofs.Results.{results_are_values}
+use Rattle.laws_meaning_values.proofs.Operators.{held_value}
+use Rattle.laws_meaning_values.proofs.Ranges.{Within, within}
 use Rattle.ceu_endings.proofs.Shapes.{LayerSingle}
 use Rattle.ceu_trail.specs.Within.{Variable, in_rest, IsHeld, ValuesWithin, CountsWithin, focus_within, brings, act_brings, rest_within}
 use Rattle.ceu_within.proofs.Widths.{variable, same_values, set_within}

@@ -5,7 +5,7 @@ use Rattle.std.specs.List.{filter}
 use Rattle.ceu_tree.specs.declared.kernel.KDecl.{KDecl}
 use Rattle.ceu_tree.specs.Residual.{Body, same_body}
 use Rattle.ceu_tree.specs.World.{Cell, Held, World, is_at, look, put, forget, forget_declared}
-use Rattle.ceu_values.proofs.Stores.{same_is}
+use Rattle.laws_meaning_values.proofs.Stores.{same_is}
 
 abbrev cell_of : Cell → Option Cell → Cell
 cell_of c None = c

@@ -13,8 +13,8 @@ use Rattle.ceu_tree.specs.declared.kernel.KBlock.{KBlock, out-KBlock}
 use Rattle.ceu_tree.specs.declared.kernel.KStmt.{out-KStmt}
 use Rattle.ceu_tree.specs.declared.kernel.KStmt.TheOpen.{KStmt-F}
 use Rattle.ceu_tree.specs.Numbering.{counts_from, decl_slots, loop_slots, stmt_slots, stmt_nodes, block_slots, block_nodes}
-use Rattle.ceu_values.proofs.Grounds.{list_ground, inner_ground, hidden_counts}
-use Rattle.ceu_values.specs.Ground.{Ground, Numbered}
+use Rattle.laws_meaning_values.proofs.Grounds.{list_ground, inner_ground, hidden_counts}
+use Rattle.laws_meaning_values.specs.Ground.{Ground, Numbered}
 use Rattle.ceu_trail.specs.Within.{Variable, declared, all_declared, turned}
 use Rattle.ceu_within.proofs.Widths.{variable, none_there, one_there, of_decl}
 

@@ -10,8 +10,8 @@ use Rattle.ceu_tree.specs.Residual.{Act, Finish, Residual, Over, Run, WaitInput,
 use Rattle.ceu_tree.specs.Focus.{Frame, OfBlock, OfOpen, OfLoop, Focus, Here, In, leaf, here, under, or_else, in_block, choose, choose_instance}
 use Rattle.ceu_tree.specs.Wake.{each_leaf, runs_at, by_input, later, by_time}
 use Rattle.ceu_tree.specs.Proper.{port_ty}
-use Rattle.ceu_legal.specs.Shape.{Part, ABlock, AStatement, block_scope, part_scope, turn_scope, Fits, in_list, at_input, at_time, in_part, in_turn}
-use Rattle.ceu_results.proofs.Ranges.{value_from}
+use Rattle.laws_meaning_basics.specs.Shape.{Part, ABlock, AStatement, block_scope, part_scope, turn_scope, Fits, in_list, at_input, at_time, in_part, in_turn}
+use Rattle.laws_meaning_values.proofs.Ranges.{value_from}
 use Rattle.ceu_endings.specs.OneTrail.{OneLeaf}
 use Rattle.ceu_trail.specs.Within.{looped, in_frame, in_focus, in_rest, frame_within, focus_within, brings, act_brings, rest_within}
 

@@ -19,8 +19,8 @@ use Rattle.ceu_tree.specs.Leaf.{Layer}
 use Rattle.ceu_tree.specs.Typing.{same_ty, holds_all}
 use Rattle.ceu_tree.specs.Proper.{Scope, Seen, SlotKind, IsLoopVariable, find, pool_slots, pools_seen, slot_kind, declared_seen, variable_ty, has_ty, is_loop_variable, is_in_code, looked_up, reads, takes}
 use Rattle.ceu_tree.specs.Focus.{Frame}
-use Rattle.ceu_legal.specs.Shape.{Part, ABlock, AStatement, AnEnd, part_scope, turn_scope, opens_part, FrameFits, around_statement, around_end, around_instance, around_part, around_turn, around_call, around_branch}
-use Rattle.ceu_results.proofs.Operators.{same_is, held_value}
+use Rattle.laws_meaning_basics.specs.Shape.{Part, ABlock, AStatement, AnEnd, part_scope, turn_scope, opens_part, FrameFits, around_statement, around_end, around_instance, around_part, around_turn, around_call, around_branch}
+use Rattle.laws_meaning_values.proofs.Operators.{same_is, held_value}
 use Rattle.ceu_endings.specs.OneTrail.{PlainFrame}
 use Rattle.ceu_trail.specs.Within.{Variable, declared, all_declared, turned, looped, in_frame}
 use Rattle.ceu_within.proofs.Widths.{variable}

@@ -14,13 +14,13 @@ use Rattle.ceu_tree.specs.Leaf.{Does, Exit, target, next_of, rest_of, acted}
 use Rattle.ceu_tree.specs.Around.{Outcome, Goes, Rests, Raises, Fails, Past, Registers, AtBlockEnd, AtLoopHead, Ends, Leaves, taken, answered, up}
 use Rattle.ceu_tree.specs.Step.{does_in, stepped}
 use Rattle.ceu_tree.specs.Proper.{Scope, BodyAim, is_proper}
-use Rattle.ceu_legal.specs.Shape.{Part, ABlock, AStatement, AnEnd, FrameFits, around_statement, around_end, around_instance, around_part, around_turn, around_call, around_branch, Around, nothing_around, one_around, ActFits, begins, heads, goes_again, starts, finishes, ends, TurnFits, Comes, program_part}
-use Rattle.ceu_legal.proofs.UpFits.{Sound, up_fits, inside_body}
-use Rattle.ceu_legal.proofs.LeafFits.{DoesFit, acted_fits}
-use Rattle.ceu_legal.proofs.StepFits.{around_sound}
-use Rattle.ceu_legal.proofs.RunFits.{root_sound}
-use Rattle.ceu_values.specs.Ground.{Ground, On}
-use Rattle.ceu_values.proofs.Grounds.{list_ground, part_ground, inner_ground, program_ground}
+use Rattle.laws_meaning_basics.specs.Shape.{Part, ABlock, AStatement, AnEnd, FrameFits, around_statement, around_end, around_instance, around_part, around_turn, around_call, around_branch, Around, nothing_around, one_around, ActFits, begins, heads, goes_again, starts, finishes, ends, TurnFits, Comes, program_part}
+use Rattle.laws_meaning_basics.proofs.UpFits.{Sound, up_fits, inside_body}
+use Rattle.laws_meaning_basics.proofs.LeafFits.{DoesFit, acted_fits}
+use Rattle.laws_meaning_basics.proofs.StepFits.{around_sound}
+use Rattle.laws_meaning_basics.proofs.RunFits.{root_sound}
+use Rattle.laws_meaning_values.specs.Ground.{Ground, On}
+use Rattle.laws_meaning_values.proofs.Grounds.{list_ground, part_ground, inner_ground, program_ground}
 use Rattle.ceu_endings.specs.OneTrail.{PlainFrame, PlainFocus}
 use Rattle.ceu_endings.proofs.Shapes.{PartSingle, layer_single, plain_focus}
 use Rattle.ceu_single.specs.Single.{block_single}

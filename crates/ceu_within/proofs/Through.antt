@@ -23,9 +23,9 @@ use Rattle.ceu_tree.specs.Abort.{aborted, forget_loop}
 use Rattle.ceu_tree.specs.Leaf.{Layer, Exit, Escape, Break, Continue, target, target_of}
 use Rattle.ceu_tree.specs.Around.{Goes, Fails, Past, moved, value_with, open_left, begins_turn, turn_of, next_turn, loop_left}
 use Rattle.ceu_tree.specs.Proper.{Scope, do_aim, takes, stmt_ok, block_ok, with_aim, outside_finalizers}
-use Rattle.ceu_legal.specs.Shape.{AStatement, part_scope, turn_scope, opens_part}
-use Rattle.ceu_legal.proofs.Static.{StmtOk, names_of}
-use Rattle.ceu_results.proofs.Ranges.{value_from}
+use Rattle.laws_meaning_basics.specs.Shape.{AStatement, part_scope, turn_scope, opens_part}
+use Rattle.laws_meaning_basics.proofs.Static.{StmtOk, names_of}
+use Rattle.laws_meaning_values.proofs.Ranges.{value_from}
 use Rattle.ceu_endings.specs.OneTrail.{PlainFocus}
 use Rattle.ceu_trail.specs.Within.{Variable, turned, looped, in_focus, in_rest, ValuesWithin, CountsWithin, counter_within, focus_within, act_brings, rest_within}
 use Rattle.ceu_within.proofs.Widths.{variable, nothing_more, ungroup, set_within, loop_gone, aborted_within}

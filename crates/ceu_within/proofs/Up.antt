@@ -12,11 +12,11 @@ use Rattle.ceu_tree.specs.Focus.{Frame, OfBlock, OfInstance, OfOpen, OfLoop, OfC
 use Rattle.ceu_tree.specs.World.{World, marked}
 use Rattle.ceu_tree.specs.Around.{Outcome, Goes, Rests, Raises, Fails, Past, Registers, AtBlockEnd, AtLoopHead, Ends, Leaves, through, up}
 use Rattle.ceu_tree.specs.Proper.{Scope, is_proper}
-use Rattle.ceu_legal.specs.Shape.{Part, ABlock, AStatement, AnEnd, part_scope, turn_scope, opens_part, aimed, FrameFits, around_statement, around_end, around_instance, around_part, around_turn, around_call, around_branch, Around, nothing_around, one_around, Comes}
-use Rattle.ceu_legal.proofs.UpFits.{Sound, frame_sound, up_fits}
-use Rattle.ceu_values.specs.Ground.{Ground, On}
-use Rattle.ceu_values.proofs.NeedsAt.{LowAt, frame_ground}
-use Rattle.ceu_values.proofs.UpValues.{plain_body}
+use Rattle.laws_meaning_basics.specs.Shape.{Part, ABlock, AStatement, AnEnd, part_scope, turn_scope, opens_part, aimed, FrameFits, around_statement, around_end, around_instance, around_part, around_turn, around_call, around_branch, Around, nothing_around, one_around, Comes}
+use Rattle.laws_meaning_basics.proofs.UpFits.{Sound, frame_sound, up_fits}
+use Rattle.laws_meaning_values.specs.Ground.{Ground, On}
+use Rattle.laws_meaning_values.proofs.NeedsAt.{LowAt, frame_ground}
+use Rattle.laws_meaning_values.proofs.UpValues.{plain_body}
 use Rattle.ceu_endings.specs.OneTrail.{PlainFrame, PlainFocus}
 use Rattle.ceu_trail.specs.Within.{Variable, in_frame, in_focus, in_rest, ValuesWithin, frame_within, focus_within, act_brings, rest_within}
 use Rattle.ceu_within.proofs.Widths.{ungroup, regroup, same_values, closed_within}

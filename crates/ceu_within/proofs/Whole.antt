@@ -4,7 +4,7 @@ use Rattle.ceu_tree.specs.declared.kernel.Kernel.{Kernel}
 use Rattle.ceu_tree.specs.Residual.{Residual}
 use Rattle.ceu_tree.specs.World.{World}
 use Rattle.ceu_tree.specs.Wake.{each_leaf, by_input, later, by_time}
-use Rattle.ceu_legal.specs.Shape.{Fits, program_part}
+use Rattle.laws_meaning_basics.specs.Shape.{Fits, program_part}
 use Rattle.ceu_single.specs.Single.{is_single}
 use Rattle.ceu_endings.proofs.Shapes.{no_codes, one_leaf}
 use Rattle.ceu_trail.specs.Within.{in_rest, ValuesWithin, rest_within, RestWithin}

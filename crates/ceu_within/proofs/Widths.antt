@@ -18,7 +18,7 @@ use Rattle.ceu_tree.specs.Residual.{Body, Program, Act, Over, Instances, no_inst
 use Rattle.ceu_tree.specs.Focus.{OfBlock, OfInstance, OfOpen, OfLoop, OfCall, OfPar, Focus, Here, In, plug}
 use Rattle.ceu_tree.specs.World.{Cell, Holds, World, look, set, forget, forget_declared}
 use Rattle.ceu_tree.specs.Abort.{aborted, forget_turns, forget_loop, closed}
-use Rattle.ceu_values.proofs.Stores.{forget_layer, forget_loop_is}
+use Rattle.laws_meaning_values.proofs.Stores.{forget_layer, forget_loop_is}
 use Rattle.ceu_endings.specs.OneTrail.{PlainFocus}
 use Rattle.ceu_trail.specs.Within.{Variable, declared, all_declared, turned, looped, in_focus, IsHeld, OneOf, ValuesWithin}
 use Rattle.ceu_within.proofs.Looks.{put_either, forgotten, Declares, all_forgotten}

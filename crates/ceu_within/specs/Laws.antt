@@ -12,7 +12,7 @@ use Rattle.ceu_tree.specs.Around.{Outcome, Goes, Rests}
 use Rattle.ceu_tree.specs.Proper.{Proper, port_ty}
 use Rattle.ceu_tree.specs.Step.{stepped}
 use Rattle.ceu_tree.specs.Run.{Between, Waiting}
-use Rattle.ceu_legal.specs.Shape.{ConfigFits, TurnFits, program_part}
+use Rattle.laws_meaning_basics.specs.Shape.{ConfigFits, TurnFits, program_part}
 use Rattle.ceu_single.specs.Single.{Single}
 use Rattle.ceu_trail.specs.Within.{TurnWithin, RestWithin}
 

@@ -8,7 +8,7 @@ use Rattle.ceu_slots.specs.Plans.{Planned, Lawful}
 use Rattle.ceu_shape.specs.Plans.{Plan}
 use Rattle.ceu_shape.specs.Searches.{kernel_pools}
 use Rattle.ceu_shape.specs.Shape.{shape_lines}
-use Rattle.ceu_placed.proofs.Few.{whole_code}
+use Rattle.laws_code_placed.proofs.Few.{whole_code}
 use Rattle.ceu_codegen.specs.declared.pools.Pool.{Pool}
 use Rattle.ceu_codegen.specs.Conditions.{planned}
 use Rattle.ceu_codegen.specs.Images.{CodesMarked}

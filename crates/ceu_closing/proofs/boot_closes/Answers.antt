@@ -1,5 +1,0 @@
-use Rattle.ceu_closing.proofs.Runs.{boot_closes}
-use Rattle.ceu_closing.proofs.boot_closes.Goals as goal
-
-pub returns : goal.returns
-returns c = λ K k n f w p e. boot_closes K p k n f w e

@@ -1,5 +1,0 @@
-use Rattle.ceu_closing.proofs.Runs.{command_closes}
-use Rattle.ceu_closing.proofs.command_closes.Goals as goal
-
-pub returns : goal.returns
-returns c = λ K m k n xs y f w p e. command_closes K p m k n xs y f w e

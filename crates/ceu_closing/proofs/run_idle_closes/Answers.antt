@@ -1,5 +1,0 @@
-use Rattle.ceu_closing.proofs.Idle.{run_idle_fine}
-use Rattle.ceu_closing.proofs.run_idle_closes.Goals as goal
-
-pub returns : goal.returns
-returns c = λ K m n xs r w p e. run_idle_fine K p m n xs r w e

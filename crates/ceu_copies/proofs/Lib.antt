@@ -1,9 +1,0 @@
-pub mod Pools
-pub mod Layers
-pub mod Sums
-pub mod Copied
-pub mod Used
-pub mod Bounded
-pub mod Heard
-pub mod HeadsWithin
-pub mod Reach

@@ -1,5 +1,0 @@
-use Rattle.ceu_copies.proofs.Reach.{reaches}
-use Rattle.ceu_copies.proofs.emissions_reach.Goals as goal
-
-pub returns : goal.returns
-returns c = λ P E N K n f s e x proper fits stand at emits. reaches P E N K n f s e x proper fits stand at emits

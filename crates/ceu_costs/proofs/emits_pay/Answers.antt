@@ -1,5 +1,0 @@
-use Rattle.ceu_costs.proofs.Whole.{emits_pay}
-use Rattle.ceu_costs.proofs.emits_pay.Goals as goal
-
-pub returns : goal.returns
-returns c = λ P E N K n f w s e x proper t i l pools emissions waking. emits_pay P E N n K proper f t w s e x i l pools emissions waking

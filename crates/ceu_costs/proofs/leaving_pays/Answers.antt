@@ -1,5 +1,0 @@
-use Rattle.ceu_costs.proofs.Turns.{parts_pay}
-use Rattle.ceu_costs.proofs.leaving_pays.Goals as goal
-
-pub returns : goal.returns
-returns c = λ P E N K n f part x w proper around counted keeps y h. parts_pay P E N K proper n f part around counted keeps x w y h

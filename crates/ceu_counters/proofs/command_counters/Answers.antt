@@ -1,5 +1,0 @@
-use Rattle.ceu_counters.proofs.Runs.{done_all}
-use Rattle.ceu_counters.proofs.command_counters.Goals as goal
-
-pub returns : goal.returns
-returns c = λ K n x d p t i h. done_all K p n x d t i h

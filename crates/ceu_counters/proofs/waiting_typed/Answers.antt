@@ -1,5 +1,0 @@
-use Rattle.ceu_counters.proofs.IntRuns.{waiting_typed}
-use Rattle.ceu_counters.proofs.waiting_typed.Goals as goal
-
-pub returns : goal.returns
-returns c = λ r w h t. waiting_typed r w h t

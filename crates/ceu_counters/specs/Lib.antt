@@ -1,3 +1,0 @@
-pub mod Counters
-pub mod Ints
-pub mod Laws

@@ -1,3 +1,0 @@
-pub mod Does
-pub mod Seen
-pub mod Laws

@@ -1,7 +1,0 @@
-pub mod Fine
-pub mod Beside
-pub mod Pieces
-pub mod Held
-pub mod Leaves
-pub mod Standing
-pub mod Bodies

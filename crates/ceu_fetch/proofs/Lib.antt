@@ -1,4 +1,0 @@
-pub mod Standing
-pub mod Constants
-pub mod Decoded
-pub mod Lines

@@ -1,5 +1,0 @@
-use Rattle.ceu_held.proofs.Runs.{abort_types}
-use Rattle.ceu_held.proofs.abort_typed.Goals as goal
-
-pub returns : goal.returns
-returns c = λ K top r w p t e. abort_types K top r w p t e

@@ -1,5 +1,0 @@
-use Rattle.std.proofs.Common.{refl}
-use Rattle.ceu_held.proofs.boot_held.Goals as goal
-
-pub returns : goal.returns
-returns c = λ K. refl

@@ -1,5 +1,0 @@
-use Rattle.ceu_held.proofs.Runs.{done_held}
-use Rattle.ceu_held.proofs.command_held.Goals as goal
-
-pub returns : goal.returns
-returns c = λ K n x c p t s h. done_held K p n x c t s h

@@ -1,5 +1,0 @@
-use Rattle.ceu_held.proofs.Runs.{steps_held}
-use Rattle.ceu_held.proofs.reaction_held.Goals as goal
-
-pub returns : goal.returns
-returns c = λ K n c p t s h. steps_held K p n c t s h

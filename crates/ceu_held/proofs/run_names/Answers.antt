@@ -1,5 +1,0 @@
-use Rattle.ceu_held.proofs.Runs.{run_hold}
-use Rattle.ceu_held.proofs.run_names.Goals as goal
-
-pub returns : goal.returns
-returns c = λ K n xs p. run_hold K p n xs

@@ -1,5 +1,0 @@
-use Rattle.ceu_held.proofs.Runs.{names_legal}
-use Rattle.ceu_held.proofs.run_names_legal.Goals as goal
-
-pub returns : goal.returns
-returns c = λ K n xs r w p e. names_legal K n xs r w p e

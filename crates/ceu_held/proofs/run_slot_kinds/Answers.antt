@@ -1,5 +1,0 @@
-use Rattle.ceu_held.proofs.Runs.{run_kinds}
-use Rattle.ceu_held.proofs.run_slot_kinds.Goals as goal
-
-pub returns : goal.returns
-returns c = λ K n xs r w p e. run_kinds K n xs r w p e

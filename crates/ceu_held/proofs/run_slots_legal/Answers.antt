@@ -1,5 +1,0 @@
-use Rattle.ceu_held.proofs.Runs.{slots_legal}
-use Rattle.ceu_held.proofs.run_slots_legal.Goals as goal
-
-pub returns : goal.returns
-returns c = λ K n xs r w p e. slots_legal K n xs r w p e

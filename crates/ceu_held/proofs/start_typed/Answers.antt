@@ -1,5 +1,0 @@
-use Rattle.ceu_held.proofs.Runs.{start_types}
-use Rattle.ceu_held.proofs.start_typed.Goals as goal
-
-pub returns : goal.returns
-returns c = λ K n f w s p t q a. start_types K n f w s p t q a

@@ -1,5 +1,0 @@
-use Rattle.ceu_held.proofs.Runs.{next_held}
-use Rattle.ceu_held.proofs.step_held.Goals as goal
-
-pub returns : goal.returns
-returns c = λ K c p t s h. next_held K p c t s h

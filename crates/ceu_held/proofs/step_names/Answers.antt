@@ -1,5 +1,0 @@
-use Rattle.ceu_held.proofs.Runs.{next_hold}
-use Rattle.ceu_held.proofs.step_names.Goals as goal
-
-pub returns : goal.returns
-returns c = λ K c p t s h. next_hold K p c t s h

@@ -1,4 +1,0 @@
-pub mod Exits
-pub mod Aims
-pub mod Rules
-pub mod Bodies

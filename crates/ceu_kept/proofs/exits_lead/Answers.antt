@@ -1,5 +1,0 @@
-use Rattle.ceu_kept.proofs.Exits.{block_leads}
-use Rattle.ceu_kept.proofs.exits_lead.Goals as goal
-
-pub returns : goal.returns
-returns c = λ P K names sc b h. block_leads P K names sc b h

@@ -1,5 +1,0 @@
-use Rattle.ceu_lawful.proofs.Lawful.{fitting}
-use Rattle.ceu_lawful.proofs.fitting_stands.Goals as goal
-
-pub returns : goal.returns
-returns c = λ K r w found p t x g j s q. fitting K r w found p t x g j s q

@@ -1,5 +1,0 @@
-use Rattle.ceu_lawful.proofs.Lawful.{waits_legal}
-use Rattle.ceu_lawful.proofs.lawful_is_legal.Goals as goal
-
-pub returns : goal.returns
-returns c = λ K r w p h. waits_legal K p r w h

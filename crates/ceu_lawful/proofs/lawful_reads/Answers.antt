@@ -1,5 +1,0 @@
-use Rattle.ceu_lawful.proofs.Lawful.{reads}
-use Rattle.ceu_lawful.proofs.lawful_reads.Goals as goal
-
-pub returns : goal.returns
-returns c = λ K n f w p h. reads K n f w p h

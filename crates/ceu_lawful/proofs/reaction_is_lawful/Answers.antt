@@ -1,5 +1,0 @@
-use Rattle.ceu_lawful.proofs.Lawful.{steps_lawful}
-use Rattle.ceu_lawful.proofs.reaction_is_lawful.Goals as goal
-
-pub returns : goal.returns
-returns c = λ K n c p h. steps_lawful K p n c h

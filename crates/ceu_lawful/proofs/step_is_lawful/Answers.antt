@@ -1,5 +1,0 @@
-use Rattle.ceu_lawful.proofs.Lawful.{next_lawful}
-use Rattle.ceu_lawful.proofs.step_is_lawful.Goals as goal
-
-pub returns : goal.returns
-returns c = λ K c p h. next_lawful K p c h

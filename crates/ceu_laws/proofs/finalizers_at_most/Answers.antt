@@ -1,5 +1,0 @@
-use Rattle.ceu_laws.proofs.RunBalance.{finalizers_at_most}
-use Rattle.ceu_laws.proofs.finalizers_at_most.Goals as goal
-
-pub returns : goal.returns
-returns c = λ K n xs p. finalizers_at_most K n xs p

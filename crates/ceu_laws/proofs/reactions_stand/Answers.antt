@@ -1,5 +1,0 @@
-use Rattle.ceu_laws.proofs.StepLaws.{steps_stand}
-use Rattle.ceu_laws.proofs.reactions_stand.Goals as goal
-
-pub returns : goal.returns
-returns c = λ K n k c h e. steps_stand K n k c h e

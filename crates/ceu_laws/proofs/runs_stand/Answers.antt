@@ -1,5 +1,0 @@
-use Rattle.ceu_laws.proofs.StepLaws.{runs_stand}
-use Rattle.ceu_laws.proofs.runs_stand.Goals as goal
-
-pub returns : goal.returns
-returns c = λ K n k xs h e. runs_stand K n k xs h e

@@ -1,4 +1,0 @@
-pub mod Finalizers
-pub mod Steps
-pub mod Order
-pub mod AbortOrder

@@ -1,5 +1,0 @@
-use Rattle.ceu_legal.proofs.RunFits.{done_fits}
-use Rattle.ceu_legal.proofs.command_fits.Goals as goal
-
-pub returns : goal.returns
-returns c = λ K n x c p h. done_fits K p n x c h

@@ -1,0 +1,7 @@
+use Rattle.std.proofs.Common.{drop}
+use Rattle.ceu_io.proofs.Written.{Printed}
+use Rattle.ceu_listing.specs.Shown.{lines_from, port_line}
+use Rattle.ceu_listing.proofs.image_parts.print_ports.Given as goal
+
+abbrev pub invariant-loop-k : goal.invariant-loop-k
+invariant-loop-k g l = Printed (lines_from (port_line l.word) 0 l.ports) (lines_from (port_line l.word) l.k (drop l.k l.ports)) l.going l.goes (g.O.Sink.held l.fn.out) (g.O.Sink.held l.out) (g.O.Sink.faults l.fn.out) (g.O.Sink.faults l.out)

@@ -1,0 +1,12 @@
+use Rattle.std.proofs.Common.{drop}
+use Rattle.ceu_listing.specs.Lines.{text}
+use Rattle.ceu_listing.specs.Rows as rows
+use Rattle.ceu_listing.specs.Rows.{AreNumbered}
+use Rattle.ceu_io.proofs.Written.{Printed}
+use Rattle.ceu_listing.proofs.kernel_parts.print_decls.Given as goal
+
+abbrev pub invariant-loop-decl : goal.invariant-loop-decl
+invariant-loop-decl g l = record {
+  printed : Printed (text (g.P.Places.planned l.places) l.gates (rows.decl_rows l.decls)) (text (g.P.Places.planned l.places) l.gates (rows.decl_rows (drop l.decl-index l.decls))) l.going l.goes (g.O.Sink.held l.fn.out) (g.O.Sink.held l.out) (g.O.Sink.faults l.fn.out) (g.O.Sink.faults l.out);
+  numbered : AreNumbered (g.P.Places.planned l.places).slot_count (g.P.Places.planned l.places).code_count (rows.decl_rows (drop l.decl-index l.decls));
+}

@@ -1,5 +1,0 @@
-use Rattle.ceu_living.proofs.Runs.{run_stands}
-use Rattle.ceu_living.proofs.run_instances.Goals as goal
-
-pub returns : goal.returns
-returns c = λ K n xs p. run_stands K p n xs

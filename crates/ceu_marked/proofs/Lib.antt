@@ -1,5 +1,0 @@
-pub mod Silent
-pub mod Around
-pub mod Acted
-pub mod Stepped
-pub mod Runs

@@ -1,5 +1,0 @@
-use Rattle.ceu_marked.proofs.Runs.{over_levels}
-use Rattle.ceu_marked.proofs.over_is_marked.Goals as goal
-
-pub returns : goal.returns
-returns c = λ K k d h. over_levels K k d h

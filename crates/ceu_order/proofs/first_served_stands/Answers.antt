@@ -1,5 +1,0 @@
-use Rattle.ceu_order.proofs.Whole.{first_served_stands}
-use Rattle.ceu_order.proofs.first_served_stands.Goals as goal
-
-pub returns : goal.returns
-returns c = λ image t home r w bytes x. first_served_stands image t home r w bytes x

@@ -1,5 +1,0 @@
-use Rattle.ceu_order.proofs.Whole.{first_stands}
-use Rattle.ceu_order.proofs.first_stands.Goals as goal
-
-pub returns : goal.returns
-returns c = λ image t home r w bytes n x. first_stands image t home r w bytes n x

@@ -1,5 +1,0 @@
-use Rattle.ceu_order.proofs.Ages.{older_in_bodies}
-use Rattle.ceu_order.proofs.older_in_bodies.Goals as goal
-
-pub returns : goal.returns
-returns c = λ codes r p d. older_in_bodies codes r p d

@@ -1,5 +1,0 @@
-use Rattle.ceu_order.proofs.Bodies.{older_stand}
-use Rattle.ceu_order.proofs.older_stand.Goals as goal
-
-pub returns : goal.returns
-returns c = λ image t o home r w bytes p. older_stand image t o home r w bytes p

@@ -1,5 +1,0 @@
-use Rattle.ceu_placed.proofs.AllThere.{names_there}
-use Rattle.ceu_placed.proofs.names_are_there.Goals as goal
-
-pub returns : goal.returns
-returns c = names_there

@@ -1,5 +1,0 @@
-use Rattle.ceu_placed.proofs.Operands.{operands_in_range}
-use Rattle.ceu_placed.proofs.operands_are_in_range.Goals as goal
-
-pub returns : goal.returns
-returns c = operands_in_range

@@ -1,5 +1,0 @@
-use Rattle.ceu_placed.proofs.Operands.{shape_placed}
-use Rattle.ceu_placed.proofs.shape_is_placed.Goals as goal
-
-pub returns : goal.returns
-returns c = shape_placed

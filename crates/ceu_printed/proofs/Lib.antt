@@ -1,9 +1,0 @@
-pub mod Keywords
-pub mod Symbols
-pub mod Leaves
-pub mod Expressions
-pub mod Parts
-pub mod Statements
-pub mod HaveTokens
-pub mod SameText
-pub mod Again

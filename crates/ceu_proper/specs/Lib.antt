@@ -1,4 +1,0 @@
-pub mod Shaped
-pub mod Events
-pub mod Sizes
-pub mod Laws

@@ -1,6 +1,0 @@
-use Rattle.ceu_reaches.proofs.Awake.{woken_ways}
-use Rattle.ceu_reaches.proofs.Stands.{woken_counted, woken_pools}
-use Rattle.ceu_reaches.proofs.waking_stays.Goals as goal
-
-pub returns : goal.returns
-returns c = λ P n f r code e v. record { ways_same = woken_ways n e v P code f r; counted = woken_counted n e v code f r; pools = woken_pools n e v code f r }

@@ -1,5 +1,0 @@
-use Rattle.ceu_reactions.proofs.Settling.{done_steady}
-use Rattle.ceu_reactions.proofs.command_is_steady.Goals as goal
-
-pub returns : goal.returns
-returns c = λ K n x c p h. done_steady K p n x c h

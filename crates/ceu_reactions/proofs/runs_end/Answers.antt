@@ -1,5 +1,0 @@
-use Rattle.ceu_reactions.proofs.Runs.{runs_end}
-use Rattle.ceu_reactions.proofs.runs_end.Goals as goal
-
-pub returns : goal.returns
-returns c = λ K xs p k. runs_end K p k xs

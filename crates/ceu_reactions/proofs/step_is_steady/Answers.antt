@@ -1,5 +1,0 @@
-use Rattle.ceu_reactions.proofs.Settling.{next_steady}
-use Rattle.ceu_reactions.proofs.step_is_steady.Goals as goal
-
-pub returns : goal.returns
-returns c = λ K c p h. next_steady K p c h

@@ -1,5 +1,0 @@
-pub mod Words
-pub mod Expressions
-pub mod Statements
-pub mod Places
-pub mod Spelled

@@ -1,5 +1,0 @@
-use Rattle.ceu_ready.proofs.Runs.{steps_all}
-use Rattle.ceu_ready.proofs.reaction_stocked.Goals as goal
-
-pub returns : goal.returns
-returns c = λ K n d p t i h. steps_all K p n d t i h

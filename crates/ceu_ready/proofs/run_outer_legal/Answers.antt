@@ -1,5 +1,0 @@
-use Rattle.ceu_ready.proofs.OuterRuns.{run_outer_legal}
-use Rattle.ceu_ready.proofs.run_outer_legal.Goals as goal
-
-pub returns : goal.returns
-returns c = λ K n xs r w p e. run_outer_legal K p n xs r w e

@@ -1,5 +1,0 @@
-use Rattle.ceu_ready.proofs.Runs.{run_set}
-use Rattle.ceu_ready.proofs.run_set_legal.Goals as goal
-
-pub returns : goal.returns
-returns c = λ K n xs r w p e. run_set K p n xs r w e

@@ -1,5 +1,0 @@
-use Rattle.ceu_ready.proofs.Runs.{run_all}
-use Rattle.ceu_ready.proofs.run_stocked.Goals as goal
-
-pub returns : goal.returns
-returns c = λ K n xs p. run_all K p n xs

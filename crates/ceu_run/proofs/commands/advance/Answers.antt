@@ -1,0 +1,15 @@
+use Rattle.ceu_tree.specs.declared.command.Command.TheVariants.{Advance}
+use Rattle.ceu_tree.specs.Run as run
+use Rattle.ceu_tree.specs.Run.{Waiting, world_of}
+use Rattle.ceu_run.proofs.DriverNoting.{lines_printed, lines_kept}
+use Rattle.ceu_run.proofs.commands.advance.Goals as goal
+
+pub returns-clause-printed : goal.returns-clause-printed
+returns-clause-printed g c = λ K b is. lines_printed g.O.Sink.held (g.R.Reactor.stands c.advance.new.self K) (λ n. run.done K n (Advance c.args.us) b) (world_of b).marks c.args.marks.now c.advance.new.out c.advance.result (c.advance.ensures.reaction K b is)
+
+pub returns-clause-kept : goal.returns-clause-kept
+returns-clause-kept g c =
+    let w = c.requires.waits.1 in
+    let K = w.kernel in
+    let b = Waiting w.tree w.world in
+    lines_kept g.O.Sink.held (g.R.Reactor.stands c.advance.new.self K) (λ n. run.done K n (Advance c.args.us) b) w.world.marks c.args.marks.now c.advance.new.out c.advance.result (c.advance.ensures.reaction K b w.here)

@@ -1,9 +1,0 @@
-pub mod Views
-pub mod Seeing
-pub mod Looking
-pub mod Holding
-pub mod Single
-pub mod Blocks
-pub mod Ranges
-pub mod Naming
-pub mod Whole

@@ -1,5 +1,0 @@
-use Rattle.ceu_spelled.proofs.Whole.{images_spelled}
-use Rattle.ceu_spelled.proofs.images_are_spelled.Goals as goal
-
-pub returns : goal.returns
-returns c = images_spelled

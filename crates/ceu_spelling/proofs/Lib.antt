@@ -1,8 +1,0 @@
-pub mod Words
-pub mod Numbers
-pub mod Times
-pub mod PrintedTimes
-pub mod Names
-pub mod Scanning
-pub mod Printing
-pub mod Tokens

@@ -1,5 +1,0 @@
-use Rattle.ceu_spelling.proofs.Tokens.{derived_spelled}
-use Rattle.ceu_spelling.proofs.derived_trees_are_spelled.Goals as goal
-
-pub returns : goal.returns
-returns c text tokens t reads derived = derived_spelled text tokens t reads derived

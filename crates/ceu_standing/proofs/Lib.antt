@@ -1,9 +1,0 @@
-pub mod Layers
-pub mod Still
-pub mod Stays
-pub mod BareTrees
-pub mod Begins
-pub mod Within
-pub mod Quiet
-pub mod BareSteps
-pub mod BareRuns

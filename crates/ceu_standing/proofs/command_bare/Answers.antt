@@ -1,5 +1,0 @@
-use Rattle.ceu_standing.proofs.BareRuns.{done_bare}
-use Rattle.ceu_standing.proofs.command_bare.Goals as goal
-
-pub returns : goal.returns
-returns c = λ K n x c p t h. done_bare K p n x c t h

@@ -1,5 +1,0 @@
-use Rattle.ceu_standing.proofs.Within.{input_within}
-use Rattle.ceu_standing.proofs.input_within.Goals as goal
-
-pub returns : goal.returns
-returns c = λ P E N S K event v r codes h. input_within K P E N S codes event v r h

@@ -1,5 +1,0 @@
-use Rattle.ceu_standing.proofs.Within.{standing_pays}
-use Rattle.ceu_standing.proofs.standing_pays.Goals as goal
-
-pub returns : goal.returns
-returns c = λ P E N S K top r codes h b. standing_pays P E N S K top r codes h b

@@ -1,5 +1,0 @@
-use Rattle.ceu_standing.proofs.BareRuns.{next_bare}
-use Rattle.ceu_standing.proofs.step_bare.Goals as goal
-
-pub returns : goal.returns
-returns c = λ K c p t h. next_bare K p c t h

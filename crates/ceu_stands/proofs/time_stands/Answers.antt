@@ -1,5 +1,0 @@
-use Rattle.ceu_stands.proofs.Occurrences.{time_stands}
-use Rattle.ceu_stands.proofs.time_stands.Goals as goal
-
-pub returns : goal.returns
-returns c = λ image t home r w m. time_stands image t home r w m

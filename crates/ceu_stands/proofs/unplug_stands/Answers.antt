@@ -1,5 +1,0 @@
-use Rattle.ceu_stands.proofs.Unplug.{unplug_stands}
-use Rattle.ceu_stands.proofs.unplug_stands.Goals as goal
-
-pub returns : goal.returns
-returns c = λ t home v f body low high q live x. unplug_stands t home v f body low high q live x

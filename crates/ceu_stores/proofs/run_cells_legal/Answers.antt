@@ -1,5 +1,0 @@
-use Rattle.ceu_stores.proofs.Runs.{cells_are}
-use Rattle.ceu_stores.proofs.run_cells_legal.Goals as goal
-
-pub returns : goal.returns
-returns y = λ K n xs r w p q e. cells_are K n xs r w p q e

@@ -1,5 +1,0 @@
-use Rattle.ceu_stores.proofs.Runs.{run_types}
-use Rattle.ceu_stores.proofs.run_typed.Goals as goal
-
-pub returns : goal.returns
-returns y = λ K n xs p q. run_types K n xs p q

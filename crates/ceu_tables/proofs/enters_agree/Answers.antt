@@ -1,5 +1,0 @@
-use Rattle.ceu_tables.proofs.Entered.{enters_agree}
-use Rattle.ceu_tables.proofs.enters_agree.Goals as goal
-
-pub returns : goal.returns
-returns c = λ K P E c k proper e. enters_agree K P E c k proper e

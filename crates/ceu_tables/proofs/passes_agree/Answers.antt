@@ -1,5 +1,0 @@
-use Rattle.ceu_tables.proofs.Ways.{passes_agree}
-use Rattle.ceu_tables.proofs.passes_agree.Goals as goal
-
-pub returns : goal.returns
-returns c = λ K c k proper e. passes_agree K c k proper e

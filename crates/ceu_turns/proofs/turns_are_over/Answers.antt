@@ -1,5 +1,0 @@
-use Rattle.ceu_turns.proofs.Ending.{turn_ends}
-use Rattle.ceu_turns.proofs.turns_are_over.Goals as goal
-
-pub returns : goal.returns
-returns c = λ K n f w kept leave t m. turn_ends K n f w kept leave t m

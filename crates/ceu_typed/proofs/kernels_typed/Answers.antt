@@ -1,6 +1,0 @@
-use Rattle.ceu_proper.proofs.Depths.{codes_outermost}
-use Rattle.ceu_typed.proofs.Bodies.{kernel_typed}
-use Rattle.ceu_typed.proofs.kernels_typed.Goals as goal
-
-pub returns : goal.returns
-returns c = λ tree s t h k z. kernel_typed s t tree (codes_outermost tree s h) h k z

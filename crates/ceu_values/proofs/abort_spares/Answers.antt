@@ -1,5 +1,0 @@
-use Rattle.ceu_values.proofs.Spares.{aborted_spares}
-use Rattle.ceu_values.proofs.abort_spares.Goals as goal
-
-pub returns : goal.returns
-returns c = λ K top d r here g w body slot p h on o e. aborted_spares K p body slot h here g w on o e

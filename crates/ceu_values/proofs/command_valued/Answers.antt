@@ -1,5 +1,0 @@
-use Rattle.ceu_values.proofs.RunValues.{done_valued}
-use Rattle.ceu_values.proofs.command_valued.Goals as goal
-
-pub returns : goal.returns
-returns c = λ K n x c p q t h. done_valued K p q n x c t h

@@ -1,5 +1,0 @@
-use Rattle.ceu_values.proofs.RunValues.{run_valued}
-use Rattle.ceu_values.proofs.run_valued.Goals as goal
-
-pub returns : goal.returns
-returns c = λ K n xs p q. run_valued K p q n xs

@@ -1,5 +1,0 @@
-use Rattle.ceu_values.proofs.RunValues.{next_valued}
-use Rattle.ceu_values.proofs.step_valued.Goals as goal
-
-pub returns : goal.returns
-returns c = λ K c p q t h. next_valued K p q c t h

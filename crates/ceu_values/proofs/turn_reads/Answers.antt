@@ -1,5 +1,0 @@
-use Rattle.ceu_values.proofs.RunValues.{config_reads}
-use Rattle.ceu_values.proofs.turn_reads.Goals as goal
-
-pub returns : goal.returns
-returns c = λ K n f w p q t h. config_reads K p q n f w t h

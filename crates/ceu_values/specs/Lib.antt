@@ -1,4 +1,0 @@
-pub mod Ground
-pub mod Ready
-pub mod Needed
-pub mod Laws

@@ -1,0 +1,12 @@
+pub mod Above
+pub mod Rows
+pub mod Ways
+pub mod Entered
+pub mod Stood
+pub mod Calm
+pub mod Woken
+pub mod Settled
+pub mod Exits
+pub mod Aims
+pub mod Rules
+pub mod Bodies

@@ -1,0 +1,4 @@
+pub mod Below
+pub mod TablesLaws
+pub mod Exits
+pub mod KeptLaws

@@ -1,0 +1,15 @@
+pub mod Halting
+pub mod Parts
+pub mod Loops
+pub mod Started
+pub mod Statements
+pub mod Codes
+pub mod MidTurn
+pub mod Over
+pub mod Ending
+pub mod Reactions
+pub mod Silent
+pub mod Around
+pub mod Acted
+pub mod Stepped
+pub mod Runs

@@ -1,0 +1,3 @@
+pub mod TurnsLaws
+pub mod Marked
+pub mod MarkedLaws

@@ -1,0 +1,4 @@
+pub mod Named
+pub mod NamedLaws
+pub mod Settled
+pub mod SettledLaws

@@ -1,0 +1,10 @@
+pub mod Standing
+pub mod Constants
+pub mod Decoded
+pub mod Lines
+pub mod Numbers
+pub mod Steps
+pub mod Works
+pub mod Runs
+pub mod Nodes
+pub mod Ticks

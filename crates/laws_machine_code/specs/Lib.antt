@@ -1,0 +1,5 @@
+pub mod Fetches
+pub mod Placed
+pub mod Does
+pub mod Seen
+pub mod Laws

@@ -1,0 +1,17 @@
+pub mod Balance
+pub mod FocusBalance
+pub mod UpBalance
+pub mod LeafBalance
+pub mod StepBalance
+pub mod RunBalance
+pub mod StepLaws
+pub mod Order
+pub mod AbortOrder
+pub mod Static
+pub mod Fits
+pub mod Leaves
+pub mod Choice
+pub mod UpFits
+pub mod LeafFits
+pub mod StepFits
+pub mod RunFits

@@ -1,0 +1,4 @@
+pub mod Counters
+pub mod Ints
+pub mod Laws
+pub mod Ranges

@@ -1,0 +1,5 @@
+pub mod Ground
+pub mod Ready
+pub mod Needed
+pub mod Laws
+pub mod Results

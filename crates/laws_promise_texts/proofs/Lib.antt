@@ -1,0 +1,4 @@
+pub mod Made
+pub mod Programs
+pub mod Whole
+pub mod Texts
